@@ -1,0 +1,3 @@
+-- The laws that every other crate cites, by subject. Each file says at its head what it is for.
+pub mod Tests
+pub mod Loops
