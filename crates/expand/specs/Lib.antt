@@ -1,0 +1,4 @@
+-- Document 01, module 2: the expansion of a block into primitive nodes.
+pub mod Nodes
+pub mod Macros
+pub mod Expansion
