@@ -2,3 +2,4 @@
 pub mod Nodes
 pub mod Macros
 pub mod Expansion
+pub mod Graph

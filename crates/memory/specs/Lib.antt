@@ -1,0 +1,4 @@
+-- Parameter values, states, delay lines: their sizes (answer 16), set (17, 18), reset, and a delay line's read and store.
+pub mod Lines
+pub mod Sizes
+pub mod Calls

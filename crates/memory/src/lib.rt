@@ -1,0 +1,1 @@
+// What lives from sample to sample: parameter values, states, one delay area and the cursors of its lines (document 01, module 6).
