@@ -2,6 +2,7 @@
 -- kit's borrow.Author.Tests (`ltb-true`, `lt-ltb`, .., `not-true`, `not-false`), and `b ≡ true` to `T b` and back is denote.Floats.{passes, is-true}. Assumes
 -- nothing.
 use mathlib.Core.Path.{_≡_, refl, sym, _∙_}
+use mathlib.Core.Logic.{_⊎_, inl, inr}
 use mathlib.Core.Bool.{Bool, true, false, cond, not, _&&_, _||_, true≢false}
 use Prim.Native.Nat.{ℕ}
 use lib.Dec.{T, eqb}
@@ -76,6 +77,16 @@ both false b e = true-false (sym e)
 pub neither : (a b : Bool) → (a || b) ≡ false → (a ≡ false) × (b ≡ false)
 neither true b e = true-false e
 neither false b e = (refl, e)
+
+-- a disjunction that is true: one part is
+pub either : (a b : Bool) → (a || b) ≡ true → (a ≡ true) ⊎ (b ≡ true)
+either true b e = inl refl
+either false b e = inr e
+
+-- a disjunction that passes: one part does
+pub or-pass : (a b : Bool) → T (a || b) → T a ⊎ T b
+or-pass true b t = inl tt
+or-pass false b t = inr t
 
 -- the first part is true
 pub or-left : (a b : Bool) → a ≡ true → (a || b) ≡ true
