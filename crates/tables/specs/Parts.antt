@@ -1,5 +1,5 @@
--- Regions of one table, and a region lent as `&mut table[a..e]` that comes back. Where the region comes back, a proof sees the kit's
--- `putMid a (e - a) table ys` and `midOf` (borrow.Rule.Slice.PartMut): `midOf` is `part`, and the kit has `put-same`, `take-put`, `drop-put`. Assumes nothing.
+-- Regions of one table, and a region lent as `&mut table[a..e]` that comes back. Where it comes back a proof sees `putMid a (e - a) table ys` and `midOf`
+-- of borrow.Rule.Slice.PartMut, which has `put-same`, `take-put` and `drop-put` too; `midOf` is `part`. Assumes nothing.
 use mathlib.Core.Path.{_≡_, refl, sym, ap, _∙_}
 use mathlib.Core.Logic.{_⊎_, inl, inr}
 use mathlib.Core.List.{List, [], _∷_, _++_, append-assoc}
@@ -7,7 +7,7 @@ use Prim.Native.Nat.{ℕ, _+_, _-_, _≤_, _<_}
 use native.Mathlib.Numerals.{add-one}
 use native.Mathlib.Omega.{arith}
 use lib.ListN.{length, take, drop, getD, set, length-append, length-take, length-drop, take-append-drop}
-use lib.Seq.{getD-drop, getD-take, drop-set-add, take-set-lt, drop-set-lt, take-set-le, length-take-le, take-suc-set, take-all, take-add, take-at, drop-at, drop-drop, take-append-le, drop-append-le, drop-append-add, set-append-left}
+use lib.Seq.{getD-drop, getD-take, drop-set-add, take-set-lt, drop-set-lt, take-set-le, length-take-le, take-suc-set, take-add, take-at, drop-at, drop-drop, take-append-le, drop-append-le, drop-append-add, set-append-left}
 use borrow.Rule.Slice.PartMut.{midOf, putMid, set-mid-at}
 
 -- the n words of a table from the index b on
@@ -16,7 +16,7 @@ part b n l = take n (drop b l)
 
 -- ---- a part
 
--- a part is what the kit shows of a lent part
+-- a lent part, as a proof sees it, is a part
 pub part-mid : (b n : ℕ) (l : List ℕ) → midOf b n l ≡ part b n l
 unfolding part
 part-mid b n l = refl
@@ -30,16 +30,6 @@ length-part b n l h = length-take-le n (drop b l) (simp length-drop (omega arith
 pub part-at : (b n : ℕ) (l : List ℕ) (i : ℕ) → i < n → getD (part b n l) i 0 ≡ getD l (b + i) 0
 unfolding part
 part-at b n l i h = getD-take n (drop b l) i 0 h ∙ getD-drop b l i 0
-
--- the first n words
-pub part-front : (n : ℕ) (l : List ℕ) → part 0 n l ≡ take n l
-unfolding part
-part-front n l = refl
-
--- the whole table
-pub part-whole : (l : List ℕ) → part 0 (length l) l ≡ l
-unfolding part
-part-whole l = take-all (length l) l (omega arith)
 
 -- two parts that meet are one
 pub part-meet : (b m n : ℕ) (l : List ℕ) → part b m l ++ part (b + m) n l ≡ part b (m + n) l

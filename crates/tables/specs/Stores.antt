@@ -1,5 +1,5 @@
--- Stores in a table: what holds of every word and a store keeps, and runs of stores. One store is in the kit's lib.Seq (`getD-set-same`, `getD-set-other`,
--- `set-set`, `set-comm`) and lib.ListN (`length-set`); so are `sets l i vs`, the words vs stored from index i on, `length-sets` and `sets-eq`. Assumes nothing.
+-- Stores in a table, what holds of every word and is kept by a store, and runs of stores. `sets l i vs`, the words vs stored from index i on, is of lib.Seq,
+-- with `length-sets` and `sets-eq`; so are `getD-set-same`, `getD-set-other`, `set-set` and `set-comm`, and `length-set` is of lib.ListN. Assumes nothing.
 use mathlib.Core.Path.{_≡_, refl, sym, ap, _∙_}
 use mathlib.Core.Bool.{Bool, true, false, cond}
 use mathlib.Core.Logic.{_⊎_, inl, inr}
@@ -7,8 +7,8 @@ use mathlib.Core.List.{List, [], _∷_, _++_}
 use Prim.Native.Nat.{ℕ, zero, suc, _+_, _≤_, _<_}
 use native.Mathlib.Nat.{not-suc-le-zero}
 use native.Mathlib.Omega.{arith}
-use lib.ListN.{length, take, drop, getD, set, length-set}
-use lib.Seq.{sets, set-out, getD-set-same, getD-set-other, getD-drop}
+use lib.ListN.{length, getD, set, length-set}
+use lib.Seq.{sets, set-out, getD-set-same, getD-set-other}
 use lib.Dec.{eqb}
 use borrow.Author.Tests.{eqb-true, eqb-false}
 
@@ -39,12 +39,13 @@ set-says l i v j x e = go (eqb j i) refl
         inl (q, sym (getD-set-same l i v 0 (omega arith)) ∙ (ap (λ (k : ℕ). getD (set l i v) k 0) (sym q) ∙ e))
     go false p = let q = eqb-false j i p in inr (q, sym (getD-set-other l i j v 0 q) ∙ e)
 
--- ---- what holds of every word, and of the 0 that is read past the end
+-- ---- what holds of every word
 
+-- P holds of every word, and of the 0 that is read past the end
 abbrev pub Each : (ℕ → Type 0) → List ℕ → Type 0
 Each P l = (i : ℕ) → P (getD l i 0)
 
--- a word of 32 bits
+-- a word of 32 bits. Of a lent `&[u32]` that is read, `λ i. c .shared-slice-known .given i .fits` is `Each Word`
 abbrev pub Word : ℕ → Type 0
 Word w = w < 4294967296
 
@@ -71,17 +72,6 @@ module _ (P : ℕ → Type 0) where
   each-append [] m h k i = k i
   each-append (x ∷ l) m h k zero = h zero
   each-append (x ∷ l) m h k (suc i) = each-append l m (λ j. h (suc j)) k i
-
-  -- the first words
-  pub each-take : (n : ℕ) (l : List ℕ) → P 0 → Each P l → Each P (take n l)
-  each-take zero l p h i = p
-  each-take (suc n) [] p h i = p
-  each-take (suc n) (x ∷ l) p h zero = h zero
-  each-take (suc n) (x ∷ l) p h (suc i) = each-take n l p (λ j. h (suc j)) i
-
-  -- the words from n on
-  pub each-drop : (n : ℕ) (l : List ℕ) → Each P l → Each P (drop n l)
-  each-drop n l h i = rw (getD-drop n l i 0) (h (n + i))
 
 -- ---- runs of stores
 

@@ -1,5 +1,5 @@
--- Tests and cases: from a test's value to a fact and back, a conjunction that stays shut, and laws of `cond`. Comparisons of numbers are in the
--- kit's borrow.Author.Tests (`ltb-true`, `lt-ltb`, .., `not-true`, `not-false`), and `b ≡ true` to `T b` and back is denote.Floats.{passes, is-true}. Assumes
+-- Tests and cases: from a test's value to a fact and back, a conjunction that stays shut, and laws of `cond`. Comparisons of numbers are in
+-- borrow.Author.Tests (`ltb-true`, `lt-ltb`, .., `not-true`, `not-false`); from `b ≡ true` to `T b` and back are denote.Floats.{passes, is-true}. Assumes
 -- nothing.
 use mathlib.Core.Path.{_≡_, refl, sym, _∙_}
 use mathlib.Core.Logic.{_⊎_, inl, inr}

@@ -1,17 +1,17 @@
--- Tables of zeros, a part of a table zeroed, one table copied over another: what `zero`, `zero_part` and `copy` do, with the laws that their loops cite. `zeros`
--- is the kit's `replicate` (lib.ListN: `length-replicate`, `replicate-append-replicate`). Assumes nothing.
+-- Tables of zeros, a part of a table zeroed, one table copied over another: what `zero`, `zero_part` and `copy` do, and the laws that their loops cite. `zeros`
+-- is `replicate` of lib.ListN, whose laws serve. Assumes nothing.
 use mathlib.Core.Path.{_≡_, refl, sym, ap, _∙_}
 use mathlib.Core.Logic.{_⊎_}
-use mathlib.Core.List.{List, [], _∷_, _++_, append-nil}
+use mathlib.Core.List.{List, [], _∷_, _++_, append-assoc, append-nil}
 use Prim.Native.Nat.{ℕ, zero, suc, _+_, _-_, _≤_, _<_, min}
 use native.Mathlib.Nat.{zero-add}
 use native.Mathlib.Decide.{decLt}
 use native.Mathlib.Numerals.{add-one}
 use native.Mathlib.Omega.{arith}
-use lib.ListN.{length, take, drop, getD, set, replicate, length-replicate, replicate-append-replicate, take-append-drop, drop-of-length-le, List·getD-eq-default}
-use Rattle.tables.specs.Parts.{part}
+use lib.ListN.{length, length-drop, take, drop, getD, set, replicate, length-replicate, replicate-append-replicate, take-append-drop, drop-of-length-le, List·getD-eq-default}
+use borrow.Rule.Slice.PartMut.{midOf, putMid}
 use Rattle.tables.specs.Stores.{sets-append, sets-in, sets-out, sets-past}
-use lib.Seq.{sets, sets-eq, length-sets, length-take-le, take-suc, take-all, drop-length}
+use lib.Seq.{drop-drop, sets, sets-eq, length-sets, length-take-le, take-suc, take-all, drop-length}
 
 -- n words, all 0
 abbrev pub zeros : ℕ → List ℕ
@@ -26,21 +26,6 @@ pub zeros-at : (n i : ℕ) → getD (zeros n) i 0 ≡ 0
 zeros-at zero i = refl
 zeros-at (suc n) zero = refl
 zeros-at (suc n) (suc i) = zeros-at n i
-
--- a store of 0 changes nothing
-pub zeros-set : (n i : ℕ) → set (zeros n) i 0 ≡ zeros n
-zeros-set zero i = refl
-zeros-set (suc n) zero = refl
-zeros-set (suc n) (suc i) = ap (λ (l : List ℕ). 0 ∷ l) (zeros-set n i)
-
--- a part of zeros is zeros
-pub zeros-part : (m b n : ℕ) → b + n ≤ m → part b n (zeros m) ≡ zeros n
-unfolding part
-zeros-part m zero zero h = refl
-zeros-part zero zero (suc n) h = absurd (omega arith)
-zeros-part (suc m) zero (suc n) h = ap (λ (l : List ℕ). 0 ∷ l) (zeros-part m zero n (omega arith))
-zeros-part zero (suc b) n h = absurd (omega arith)
-zeros-part (suc m) (suc b) n h = zeros-part m b n (omega arith)
 
 -- ---- zeroing
 
@@ -85,6 +70,12 @@ pub zeroed-rest : (b : ℕ) (l : List ℕ) → b ≤ length l → zeroed b (leng
 zeroed-rest b l h =
     let z : b + (length l - b) ≡ length l = omega arith in
     zeroed-is b (length l - b) l (omega arith) ∙ rw (z, drop-length, append-nil)
+
+-- a part lent to `zero` comes back: the table with that part zeroed
+pub put-zeros : (a k : ℕ) (l ys : List ℕ) → a + k ≤ length l → ys ≡ zeros (length (midOf a k l)) → putMid a k l ys ≡ zeroed a k l
+put-zeros a k l ys h e =
+    let z : length (midOf a k l) ≡ k = length-take-le k (drop a l) (simp length-drop (omega arith)) in
+    rw (e, z, drop-drop k a l, ← append-assoc (take a l) (zeros k) (drop (a + k) l)) (sym (zeroed-is a k l h))
 
 -- two zeroed parts that meet are one
 pub zeroed-meet : (b n i m : ℕ) (l : List ℕ) → i ≡ b + n → zeroed i m (zeroed b n l) ≡ zeroed b (n + m) l
