@@ -1,0 +1,3 @@
+pub mod Operations
+pub mod Laws
+pub mod Examples
