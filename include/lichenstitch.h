@@ -1,0 +1,39 @@
+// Lichenstitch's C functions, of the static library that `rt staticlib capi` makes (x86-64 Linux).
+// Every value is a 32-bit word; a word that stands for a float holds its IEEE 754 binary32 bits.
+// Kept by hand beside crates/capi/src/lib.rt, which has the contracts.
+#ifndef LICHENSTITCH_H
+#define LICHENSTITCH_H
+
+#include <stdbool.h>
+#include <stddef.h>
+#include <stdint.h>
+
+#ifdef __cplusplus
+extern "C" {
+#endif
+
+// Word operations. A NaN that add, sub or mul gives is always 0x7fc00000.
+uint32_t lichenstitch_add(uint32_t lhs, uint32_t rhs);
+uint32_t lichenstitch_sub(uint32_t lhs, uint32_t rhs);
+uint32_t lichenstitch_mul(uint32_t lhs, uint32_t rhs);
+// lhs if it is less (greater), else rhs; of a NaN and another word, the other.
+uint32_t lichenstitch_min(uint32_t lhs, uint32_t rhs);
+uint32_t lichenstitch_max(uint32_t lhs, uint32_t rhs);
+// The sign bit flipped, or cleared, of any word.
+uint32_t lichenstitch_neg(uint32_t word);
+uint32_t lichenstitch_abs(uint32_t word);
+// The wrapping difference of the two words.
+uint32_t lichenstitch_integer_sub(uint32_t lhs, uint32_t rhs);
+
+// Neither infinite nor NaN.
+bool lichenstitch_is_finite(uint32_t word);
+// Three finite words, min < max, max - min finite, and default inside min..max.
+bool lichenstitch_span_is_valid(uint32_t min, uint32_t max, uint32_t default_value);
+// A finite word inside min..max.
+bool lichenstitch_in_range(uint32_t min, uint32_t max, uint32_t value);
+
+#ifdef __cplusplus
+}
+#endif
+
+#endif

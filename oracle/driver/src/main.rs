@@ -1,0 +1,46 @@
+//! Compares Lichenstitch with the Rust. Run by ../compare and ../vectors.
+//!
+//! driver SUBJECT OURS SEED COUNT   SUBJECT: words, blocks. OURS: the program made of ours/ours.c and the static library
+//! driver bench OURS                times both sides
+//! driver vectors words             prints vectors with the Rust's answers
+mod bench;
+mod blocks;
+mod generate;
+mod ours;
+mod random;
+mod shrink;
+mod spans;
+mod vectors;
+mod words;
+
+use ours::Ours;
+
+fn main() {
+    let arguments: Vec<String> = std::env::args().skip(1).collect();
+    let arguments: Vec<&str> = arguments.iter().map(String::as_str).collect();
+    match arguments[..] {
+        [subject @ ("words" | "blocks"), program, seed, count] => {
+            let (seed, count) = (number(seed), number(count));
+            let mut ours = Ours::start(program);
+            let outcome = match subject {
+                "words" => words::compare(&mut ours, seed, count),
+                _ => blocks::compare(&mut ours, seed, count),
+            };
+            report(subject, seed, outcome);
+        }
+        ["bench", program] => bench::run(&mut Ours::start(program)),
+        ["vectors", "words"] => print!("{}", vectors::words()),
+        _ => panic!("usage: driver words|blocks OURS SEED COUNT, driver bench OURS, driver vectors words"),
+    }
+}
+
+fn number(text: &str) -> u64 {
+    text.parse().unwrap_or_else(|_| panic!("{text} is not a number"))
+}
+
+fn report(subject: &str, seed: u64, outcome: Result<(), String>) {
+    if let Err(difference) = outcome {
+        println!("{subject}: DIFFERENCE, seed {seed}\n{difference}");
+        std::process::exit(1);
+    }
+}

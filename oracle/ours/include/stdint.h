@@ -1,0 +1,2 @@
+// For a compiler that comes without its headers.
+typedef __UINT32_TYPE__ uint32_t;
