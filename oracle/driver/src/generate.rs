@@ -219,7 +219,8 @@ pub fn fault(random: &mut Random, block: &mut Tables, number: u32) {
         }
         8 => block.output = past(random, block.nodes.len() / 3),
         9 => {
-            let code = random.pick(if block.version == 1 { &OLD_OPERATIONS[..] } else { &NEW_OPERATIONS[..] });
+            let is_new = block.version != 1 && random.one_in(2);
+            let code = random.pick(if is_new { &NEW_OPERATIONS[..] } else { &OLD_OPERATIONS[..] });
             let at = place_node(random, block, [0, 0, 0]);
             let node = at / 3;
             let good = if node == 0 { 0 } else { random.below(node) as u32 };
