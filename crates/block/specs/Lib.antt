@@ -3,3 +3,4 @@ pub mod Block
 pub mod Kinds
 pub mod Limits
 pub mod Validation
+pub mod Valid
