@@ -1,0 +1,55 @@
+-- `first_bad_state`: every state below i is accepted; the limit makes its index a word.
+use borrow.Author.Needs.{needs}
+use mathlib.Core.Path.{_≡_, sym, _∙_}
+use native.Mathlib.Omega.{arith}
+use Prim.Native.Nat.{_-_, _≤_}
+use Rattle.answers.specs.Numbers.{accepted}
+use Rattle.answers.specs.Order.{inOrder}
+use Rattle.answers.specs.OrderLaws.{in-order-start, in-order-next, in-order-stop, in-order-end, refuse-at-on, refuse-at-off}
+use Rattle.block.specs.Validation.{stateAnswer}
+use Rattle.block.proofs.scans.first_bad_state.Statement.{statement}
+use Rattle.block.proofs.scans.first_bad_state.Tie as tie
+
+abbrev Inv-loop : tie.InvT-loop
+Inv-loop states nodes count i₀ i = (i ≤ count) × (inOrder (stateAnswer states nodes) i ≡ accepted tt)
+
+abbrev μ-loop : tie.MeasureT-loop
+μ-loop states nodes count i₀ i = count - i
+
+loop-holds : tie.Need-loop-holds Inv-loop μ-loop
+loop-holds c = (omega arith, in-order-start _)
+
+cast-t16 : tie.Need-cast-t16 Inv-loop μ-loop
+cast-t16 c = omega (arith, c .before .before .before .before .before .before .before .pre, c .before .before .before .before .loop-test .taken)
+
+returns : tie.Need-returns Inv-loop μ-loop
+unfolding stateAnswer
+returns c = sym (in-order-stop _ _ (c .before .before .before .before .before .loop .i) 11 _ (c .before .before .before .before .loop-test .taken) (c .before .before .before .before .before .loop .inv .1) (refuse-at-on 11 _ (sym (c .before .bad-state .ensures) ∙ c .if1 .taken)))
+
+loop-again : tie.Need-loop-again Inv-loop μ-loop
+unfolding stateAnswer
+loop-again c = (omega arith, in-order-next _ _ (c .before .before .before .before .before .loop .inv .1) (refuse-at-off 11 _ (sym (c .before .bad-state .ensures) ∙ c .if1 .left)))
+
+returns-2 : tie.Need-returns-2 Inv-loop μ-loop
+returns-2 c = sym (in-order-end _ (c .before .loop .i) _ (c .before .loop .inv .0) (c .loop-test .left) (c .before .loop .inv .1))
+
+pub first-bad-state-spec : {M : Type 1} → statement M
+first-bad-state-spec =
+    tie.close
+    (tie.spec
+    Inv-loop
+    μ-loop
+    loop-holds
+    (λ c. search needs)
+    (λ c. search needs)
+    (λ c. search needs)
+    (λ c. search needs)
+    (λ c. search needs)
+    (λ c. search needs)
+    (λ c κs. search needs)
+    cast-t16
+    returns
+    (λ c. search needs)
+    (λ c. search needs)
+    loop-again
+    returns-2)
