@@ -5,4 +5,5 @@ pub mod KindLaws
 pub mod Limits
 pub mod Validation
 pub mod Valid
+pub mod ValidExact
 pub mod Parts

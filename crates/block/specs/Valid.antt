@@ -1,51 +1,25 @@
 -- What an accepted block is: each answer's tests turned into a fact with a name. Later crates cite `valid` and these facts, not the text of `validation`.
-use mathlib.Core.Path.{_≡_, refl, sym}
-use mathlib.Core.Bool.{Bool, true, false, not, _&&_, _||_}
+use mathlib.Core.Path.{_≡_, sym}
+use mathlib.Core.Bool.{Bool, true, false, not, _&&_}
 use mathlib.Core.List.{List}
-use Prim.Native.Nat.{ℕ, suc, _≤_, _<_, _%_}
+use Prim.Native.Nat.{ℕ, zero, suc, _≤_, _<_, _%_}
 use lib.ListN.{length}
-use lib.Dec.{leb, ltb, eqb}
-use borrow.Author.Tests.{ltb-false, leb-false, eqb-true, eqb-false, eq-eqb, not-false}
+use lib.Dec.{ltb, eqb}
+use borrow.Author.Tests.{ltb-false, leb-false, eqb-false, eq-eqb, not-false}
 use native.Mathlib.Omega.{arith}
 use Rattle.words.specs.Operations.{isFinite, spanIsValid}
 use Rattle.tables.specs.Tests.{true-false, neither, same-of}
-use Rattle.tables.specs.Loops.{some, some-false}
+use Rattle.tables.specs.Loops.{some, some-false, sum, sum-start}
 use Rattle.answers.specs.Numbers.{accepted}
-use Rattle.answers.specs.Order.{_⨾_, refuse, refuseAt, inOrder}
 use Rattle.answers.specs.OrderLaws.{then-accepted, refuse-accepted, refuse-at-accepted, in-order-accepted}
 use Rattle.block.specs.declared.Header.{Header}
 use Rattle.block.specs.declared.Kind.{Kind}
 use Rattle.block.specs.declared.Kind.the-variants.{Source, Constant, Parameter, State, Delay, Binary, Divide, Unary, Recip, Tanh, Sigmoid, Unknown}
 use Rattle.block.specs.Block.{Block, parameterCount, stateCount, delayCount, nodeCount, minimum, maximum, default, initial, update, delayLength, code, first, second}
-use Rattle.block.specs.Kinds.{kindOf, operandsOf}
+use Rattle.block.specs.Kinds.{kindOf, operandsOf, tanhSteps}
+use Rattle.block.specs.KindLaws.{count-offset}
 use Rattle.block.specs.Limits.{firstVersion, lastVersion, networkVersion, lastCategory, mono, codeNeedsTwo, categoryNeedsTwo, mostNodes, mostParameters, mostStates, mostDelays, mostDelaySamples}
-use Rattle.block.specs.Validation.{
-  Counts,
-  countsOf,
-  ragged,
-  malformedWords,
-  malformedNode,
-  malformedHeader,
-  malformed,
-  unknownVersion,
-  networkNotAllowed,
-  readsNetwork,
-  networkFlagClear,
-  nodeNeedsTwo,
-  needsVersionTwo,
-  expandedLength,
-  tooLarge,
-  parameterAnswer,
-  outputMissing,
-  operandNotBelow,
-  badContent,
-  wordsAnswer,
-  nodeAnswer,
-  stateAnswer,
-  runningTotal,
-  delayAnswer,
-  validation,
-}
+use Rattle.block.specs.Validation.{Counts, countsOf, ragged, malformedWords, malformedNode, malformedHeader, malformed, unknownVersion, networkNotAllowed, readsNetwork, networkFlagClear, nodeNeedsTwo, needsVersionTwo, expandedLength, tooLarge, parameterAnswer, operandNotBelow, badContent, wordsAnswer, nodeAnswer, stateAnswer, runningTotal, delayAnswer, validation}
 
 -- a node i of a kind with the words x and y: operands stand before it, an index is below its table's count, a constant is finite, unused words are 0
 abbrev pub SoundWords : Kind → Counts → ℕ → ℕ → ℕ → Type 0
@@ -227,3 +201,12 @@ valid b e =
       delayTotals = λ i h. delay-facts _ _ i (delay i h) .1;
       delayUpdates = λ i h. delay-facts _ _ i (delay i h) .2;
     }
+
+-- ---- two bounds that follow
+pub node-limit : (b : Block) → Valid b → nodeCount b ≤ mostNodes
+node-limit b v = omega (arith, v .fits, count-offset tanhSteps (b .nodes) (nodeCount b))
+
+-- the delays below n, all of them or fewer, have at most so many samples together
+pub samples-limit : (b : Block) → Valid b → (n : ℕ) → n ≤ delayCount b → sum (delayLength (b .delays)) n ≤ mostDelaySamples
+samples-limit b v zero h = omega (arith, sum-start (delayLength (b .delays)))
+samples-limit b v (suc n) h = v .delayTotals n h

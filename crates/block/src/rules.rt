@@ -4,7 +4,7 @@ use crate::Kind;
 use crate::limits;
 ghost use mathlib.Core.Path.{_≡_};
 ghost use mathlib.Core.Bool.{not, _||_};
-ghost use lib.Dec.{leb, ltb, eqb};
+ghost use lib.Dec.{ltb, eqb};
 ghost use Rattle.words.specs.Operations.{isFinite};
 ghost use Rattle.block.specs.Limits.{mostDelaySamples};
 ghost use Rattle.block.specs.Validation.{malformedWords, malformedHeader, unknownVersion, networkNotAllowed, operandNotBelow, badContent};

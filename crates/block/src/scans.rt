@@ -70,7 +70,8 @@ pub fn first_bad_parameter(parameters: &[u32]) -> Verdict
     while i < count {
         let at = 3 * i;
         if !words::span_is_valid(parameters[at], parameters[at + 1], parameters[at + 2]) {
-            return Verdict::Refused(Refusal::BadParameter { index: i as u32 });
+            let index = i as u32;
+            return Verdict::Refused(Refusal::BadParameter { index });
         }
         i += 1;
     }
@@ -134,7 +135,8 @@ pub fn first_bad_state(states: &[u32], nodes: usize) -> Verdict
     while i < count {
         let at = 2 * i;
         if rules::bad_state(states[at], states[at + 1], nodes) {
-            return Verdict::Refused(Refusal::BadState { index: i as u32 });
+            let index = i as u32;
+            return Verdict::Refused(Refusal::BadState { index });
         }
         i += 1;
     }
@@ -157,10 +159,12 @@ pub fn first_bad_delay(delays: &[u32], nodes: usize) -> Verdict
     let mut i: usize = 0;
     while i < count {
         let at = 2 * i;
-        total += wide(delays[at]);
-        if rules::bad_delay(delays[at], delays[at + 1], total, nodes) {
-            return Verdict::Refused(Refusal::BadDelay { index: i as u32 });
+        let next = total + wide(delays[at]);
+        if rules::bad_delay(delays[at], delays[at + 1], next, nodes) {
+            let index = i as u32;
+            return Verdict::Refused(Refusal::BadDelay { index });
         }
+        total = next;
         i += 1;
     }
     Verdict::Valid

@@ -22,11 +22,11 @@ abbrev μ-loop : tie.MeasureT-loop
 loop-holds : tie.Need-loop-holds Inv-loop μ-loop
 loop-holds c = (omega arith, (in-order-start _, (sym (sum-start _), omega arith)))
 
-add-total : tie.Need-add-total Inv-loop μ-loop
-add-total c = omega (arith, c .before .before .before .before .shared-slice-known .given (2 * c .before .before .before .loop .i))
+add-next : tie.Need-add-next Inv-loop μ-loop
+add-next c = omega (arith, c .before .before .before .before .shared-slice-known .given (2 * c .before .before .before .loop .i))
 
-cast-t18 : tie.Need-cast-t18 Inv-loop μ-loop
-cast-t18 c = omega (arith, c .before .before .before .before .before .before .before .before .before .pre, c .before .before .before .before .before .before .loop-test .taken)
+cast-index : tie.Need-cast-index Inv-loop μ-loop
+cast-index c = omega (arith, c .before .before .before .before .before .before .before .before .before .pre, c .before .before .before .before .before .before .loop-test .taken)
 
 returns : tie.Need-returns Inv-loop μ-loop
 returns c = sym (in-order-stop _ _ (c .before .before .before .before .before .before .before .loop .i) 12 _ (c .before .before .before .before .before .before .loop-test .taken) (c .before .before .before .before .before .before .before .loop .inv .1 .0) (delay-stop _ _ _ _ _ (c .before .before .before .before .before .before .before .loop .inv .1 .1 .0) (c .before .before .before .before .wide .ensures) (sym (c .before .bad-delay .ensures) ∙ c .if1 .taken)))
@@ -48,14 +48,14 @@ first-bad-delay-spec =
     (λ c. search needs)
     (λ c. search needs)
     (λ c κs. search needs)
-    add-total
+    add-next
     (λ c. search needs)
     (λ c. search needs)
     (λ c. search needs)
     (λ c. search needs)
     (λ c. search needs)
     (λ c κs. search needs)
-    cast-t18
+    cast-index
     returns
     (λ c. search needs)
     (λ c. search needs)
