@@ -2,3 +2,7 @@
 pub mod Lines
 pub mod Sizes
 pub mod Calls
+pub mod ListLaws
+pub mod Fit
+pub mod LineLaws
+pub mod SizeLaws
