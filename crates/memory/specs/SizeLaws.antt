@@ -2,12 +2,12 @@
 use mathlib.Core.Path.{_≡_, refl, sym, _∙_}
 use mathlib.Core.Bool.{Bool, true, false, _||_}
 use mathlib.Core.List.{List}
-use Prim.Native.Nat.{ℕ, zero, suc, _/_, _≤_, _<_}
+use Prim.Native.Nat.{ℕ, zero, suc, _/_, _≤_, _<_, _+_}
 use native.Mathlib.Omega.{arith}
 use lib.ListN.{length, getD}
 use lib.Dec.{eqb}
 use borrow.Author.Tests.{ltb-true, eqb-true, ne-eqb}
-use Rattle.tables.specs.Loops.{sum, every-true}
+use Rattle.tables.specs.Loops.{sum, sum-next, sum-le, every-true}
 use Rattle.tables.specs.Tests.{&-both, true-false}
 use Rattle.block.specs.Block.{Block, parameterCount, stateCount, delayCount, delayLength}
 use Rattle.block.specs.Limits.{mostDelays, mostDelaySamples}
@@ -17,6 +17,10 @@ use Rattle.memory.specs.Lines.{Memories, lineBase}
 use Rattle.memory.specs.Sizes.{valuesFit, areaLength, memoriesFit, cursorBelow, cursorsBelow, signalsFit, runFits}
 use Rattle.memory.specs.Fit.{lineLengths, Small, Fit}
 use Rattle.memory.specs.LineLaws.{lengths-count, length-at, base-sum}
+
+-- a running total that is over a length already: the whole sum is another
+pub area-stop : (f : ℕ → ℕ) (i n total size : ℕ) → i < n → total ≡ sum f i → size < total + f i → eqb size (sum f n) ≡ false
+area-stop f i n total size h e q = ne-eqb size (sum f n) (λ z. omega (arith, sum-next f i, sum-le f (i + 1) n (omega arith)))
 
 -- states, cursors and area of the block's size
 pub record Held (b : Block) (m : Memories) : Type 0 where

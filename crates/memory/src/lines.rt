@@ -6,7 +6,7 @@ ghost use lib.ListN.{length, set};
 ghost use Rattle.memory.specs.Lines.{memories, readDelay, storeDelay};
 ghost use Rattle.memory.specs.Fit.{lineLengths, lineBases, Small, Reach, stored};
 
-fn place(word: u32) -> usize
+pub fn place(word: u32) -> usize
     ensures { λ r. ⌜ r ≡ word ⌝ }
 {
     word as usize
