@@ -6,3 +6,4 @@ pub mod ListLaws
 pub mod Fit
 pub mod LineLaws
 pub mod SizeLaws
+pub mod CallLaws

@@ -5,7 +5,7 @@ use Prim.Native.Nat.{ℕ, zero, suc, _+_, _-_, _≤_, _<_}
 use native.Mathlib.Numerals.{add-one}
 use native.Mathlib.Decide.{decLt}
 use native.Mathlib.Omega.{arith}
-use lib.ListN.{length, getD, set, drop, length-append, List·getD-append}
+use lib.ListN.{length, getD, set, drop, length-append, length-drop, List·getD-append}
 use lib.Seq.{getD-at, set-at, drop-cons, drop-length}
 use Rattle.tables.specs.Loops.{sum}
 use Rattle.tables.specs.Zeros.{zeros}
@@ -53,10 +53,15 @@ filled-next f i l m h e =
     rw (e, drop-cons l i 0 h, add-one)
     (set-at (listOf f i) (getD l i 0) (drop (suc i) l) (f i) i (list-length f i) ∙ sym (append-assoc (listOf f i) (f i ∷ []) (drop (suc i) l)))
 
--- its end, in a table of n words
-pub filled-end : (f : ℕ → ℕ) (l : List ℕ) → filled f (length l) l ≡ listOf f (length l)
+-- its end, in a table of i words
+pub filled-last : (f : ℕ → ℕ) (i : ℕ) (l m : List ℕ) → i ≡ length l → m ≡ filled f i l → m ≡ listOf f (length l)
 unfolding filled
-filled-end f l = rw (drop-length, append-nil)
+filled-last f i l m h e = e ∙ rw (h, drop-length, append-nil)
+
+-- the table keeps its length
+pub filled-length : (f : ℕ → ℕ) (i : ℕ) (l m : List ℕ) → i ≤ length l → m ≡ filled f i l → length m ≡ length l
+unfolding filled
+filled-length f i l m h e = ap length e ∙ simp (length-append, list-length, length-drop) (omega arith)
 
 -- its end, in a table of zeros
 pub drop-zeros : (n m : ℕ) → drop n (zeros m) ≡ zeros (m - n)

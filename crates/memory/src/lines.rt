@@ -40,9 +40,9 @@ pub fn read_delay(
     requires { ⌜ Reach (now delays) (now bases) (now area) (now cursors) i ⌝ }
     ensures { λ r. ⌜ ((states : List ℕ) → r ≡ readDelay (lineLengths (now (delays .entry))) (memories states (now (area .entry)) (now (cursors .entry))) i) ⌝ }
 {
-    let base = place(bases[i]);
+    let start = place(bases[i]);
     let cursor = place(cursors[i]);
-    area[base + cursor]
+    area[start + cursor]
 }
 
 // The one store of a delay: the value in the line's cell at the cursor; answers the next cursor, round the line's end.
