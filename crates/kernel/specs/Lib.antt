@@ -2,3 +2,5 @@
 pub mod Steps
 pub mod Instructions
 pub mod Lists
+pub mod RoundTrips
+pub mod ListLaws

@@ -1,9 +1,10 @@
 -- Answer 15: which step lists may run. "a step malformed or barred from its phase (see the checker), a malformed computed instruction, an index outside
 -- its table or declared count, no sample steps". Definitions alone.
-use mathlib.Core.Bool.{Bool, true, false, not, _||_}
+use mathlib.Core.Bool.{Bool, true, false, not}
 use mathlib.Core.List.{List}
-use Prim.Native.Nat.{ℕ, _+_}
+use Prim.Native.Nat.{ℕ, _+_, _*_, _≤_}
 use lib.Dec.{eqb, ltb}
+use lib.ListN.{length}
 use Rattle.tables.specs.Loops.{every}
 use Rattle.tables.specs.Tests.{_&_}
 use Rattle.kernel.specs.declared.Source.{Source}
@@ -75,25 +76,31 @@ computesFormed instructions (StoreDelay delay register) = true
 computesFormed instructions (StoreOutput register) = true
 computesFormed instructions (StoreControl slot register) = true
 
--- a step's words may run in a phase
+-- a step may run in a phase
+unfoldable pub stepMayRun : Sizes → List ℕ → Phase → Step → Bool
+stepMayRun n instructions phase step = allowedIn phase step & indexInside n step & computesFormed instructions step
+
+-- .. and so may its words
 abbrev pub wordsMayRun : Sizes → List ℕ → Phase → StepWords → Bool
-wordsMayRun n instructions phase (StepWords.Formed step) = allowedIn phase step & indexInside n step & computesFormed instructions step
+wordsMayRun n instructions phase (StepWords.Formed step) = stepMayRun n instructions phase step
 wordsMayRun n instructions phase StepWords.Malformed = false
 
 -- step i of a table may
 unfoldable pub mayRun : Sizes → List ℕ → List ℕ → Phase → ℕ → Bool
 mayRun n steps instructions phase i = wordsMayRun n instructions phase (stepAt steps i)
 
--- control steps come first in the table, sample steps after them
-unfoldable pub controlMayRun : Sizes → List ℕ → List ℕ → ℕ → Bool
-controlMayRun n steps instructions i = mayRun n steps instructions Control i
-
-unfoldable pub sampleMayRun : Sizes → List ℕ → List ℕ → ℕ → ℕ → Bool
-sampleMayRun n steps instructions control i = mayRun n steps instructions Sample (control + i)
+-- step i of a phase may, whose steps stand in the table from `first` on: control steps come first, sample steps after them
+unfoldable pub phaseMayRun : Sizes → List ℕ → List ℕ → Phase → ℕ → ℕ → Bool
+phaseMayRun n steps instructions phase first i = mayRun n steps instructions phase (first + i)
 
 -- the whole list may run: what answer 15 is given for is the opposite
 unfoldable pub listMayRun : Sizes → List ℕ → List ℕ → Kernel → Bool
 listMayRun n steps instructions k =
     not (eqb (k .sample) 0)
-    & every (controlMayRun n steps instructions) (k .control)
-    & every (sampleMayRun n steps instructions (k .control)) (k .sample)
+    & every (phaseMayRun n steps instructions Control 0) (k .control)
+    & every (phaseMayRun n steps instructions Sample (k .control)) (k .sample)
+
+-- answer 13 comes before 15: the two tables are as long as the kernel declares
+pub record Declared (steps instructions : List ℕ) (k : Kernel) : Type 0 where
+  pub whole-steps : 2 * (k .control + k .sample) ≤ length steps
+  pub whole-instructions : 2 * k .instructions ≤ length instructions

@@ -1,5 +1,9 @@
 // Steps, instructions and kernels, and the words that tables hold of them (document 01, "What crosses the boundary").
 
+pub mod instructions;
+pub mod lists;
+pub mod steps;
+
 // Where a load reads.
 pub enum Source {
     Audio,
