@@ -1,6 +1,6 @@
 // A block: a header and four lent tables of words (document 01, "What crosses the boundary"), and its validation.
 pub mod kinds;
-mod limits;
+pub mod limits;
 mod rules;
 mod scans;
 mod whole;
