@@ -3,3 +3,6 @@ pub mod Nodes
 pub mod Macros
 pub mod Expansion
 pub mod Graph
+pub mod Lengths
+pub mod Good
+pub mod Plain
