@@ -15,13 +15,16 @@ use Rattle.tables.specs.Tests.{_&_, true-false}
 use Rattle.tables.specs.Loops.{every, every-true}
 use Rattle.block.specs.declared.Kind.{Kind}
 use Rattle.block.specs.declared.Kind.the-variants.{Source, Constant, Parameter, State, Delay, Binary, Divide, Unary, Recip, Tanh, Sigmoid, Unknown}
-use Rattle.block.specs.Block.{Block, nodeCount, code, first, second}
+use Rattle.block.specs.Block.{Block, stateCount, delayCount, nodeCount, code, first, second}
 use Rattle.block.specs.Kinds.{kindOf, operandsOf, recipLength, nodeLength, offset}
 use Rattle.block.specs.Validation.{Counts, countsOf, expandedLength}
+use Rattle.block.specs.Valid.{SoundWords, Sound, Valid}
 use Rattle.expand.specs.Nodes.{Node, node, mul, wordsOf}
+use Rattle.expand.specs.Words.{noNode, words-at}
 use Rattle.expand.specs.Macros.{newton, recip, tanhInput, tanhNumerator, tanhDenominator, tanhFraction, tanh, sigmoid, divide}
-use Rattle.expand.specs.Expansion.{expandAs, mapNode, expandNode, expandTo, expansion}
-use Rattle.expand.specs.Lengths.{recip-length, tanh-length, to-length, map-below, expansion-length}
+use Rattle.expand.specs.Expansion.{expandAs, mapNode, expandNode, expandTo, expansion, mappedOutput}
+use Rattle.expand.specs.Graph.{mappedUpdate}
+use Rattle.expand.specs.Lengths.{recip-length, tanh-length, to-length, map-below, map-update-le, expansion-length}
 
 -- ---- the words of a primitive node at position k, by its kind
 abbrev pub GoodAs : Kind → Counts → ℕ → ℕ → ℕ → Type 0
@@ -102,29 +105,11 @@ good-sigmoid n steps k x h =
     let l = tanh-length steps (k + 2) (k + 1) in
     (refl, (omega arith, rw z (good-append n (k + 2) (tanh steps (k + 2) (k + 1)) _ (good-tanh n steps (k + 2) (k + 1) (omega arith)) (omega arith, (omega arith, tt)))))
 
--- ---- a valid node's words, macros too
-abbrev pub SoundAs : Kind → Counts → ℕ → ℕ → ℕ → Type 0
-SoundAs Source n i x y = (x ≡ 0) × (y ≡ 0)
-SoundAs Constant n i x y = y ≡ 0
-SoundAs Parameter n i x y = (x < n .parameters) × (y ≡ 0)
-SoundAs State n i x y = (x < n .states) × (y ≡ 0)
-SoundAs Delay n i x y = (x < n .delays) × (y ≡ 0)
-SoundAs Binary n i x y = (x < i) × (y < i)
-SoundAs Divide n i x y = (x < i) × (y < i)
-SoundAs Unary n i x y = (x < i) × (y ≡ 0)
-SoundAs Recip n i x y = (x < i) × (y ≡ 0)
-SoundAs Tanh n i x y = (x < i) × (y ≡ 0)
-SoundAs Sigmoid n i x y = (x < i) × (y ≡ 0)
-SoundAs Unknown n i x y = ⊥
-
-abbrev pub Sound : Counts → List ℕ → ℕ → Type 0
-Sound n nodes i = SoundAs (kindOf (code nodes i)) n i (first nodes i) (second nodes i)
-
 -- ---- one node's expansion, where `map` takes each operand below position k
 good-as : (kind : Kind) (n : Counts) (steps : ℕ) (map : ℕ → ℕ) (i k c x y : ℕ) → kind ≡ kindOf c → ((j : ℕ) → j < i → map j < k)
-    → SoundAs kind n i x y → AllGood n k (expandAs steps kind map k c x y)
+    → SoundWords kind n i x y → AllGood n k (expandAs steps kind map k c x y)
 good-as Source n steps map i k c x y e m h = (rw (← e) h, tt)
-good-as Constant n steps map i k c x y e m h = (rw (← e) h, tt)
+good-as Constant n steps map i k c x y e m h = (rw (← e) (h .1), tt)
 good-as Parameter n steps map i k c x y e m h = (rw (← e) h, tt)
 good-as State n steps map i k c x y e m h = (rw (← e) h, tt)
 good-as Delay n steps map i k c x y e m h = (rw (← e) h, tt)
@@ -144,32 +129,18 @@ good-to n steps nodes (suc i) h =
     good-append n 0 (expandTo steps nodes i) _ (good-to n steps nodes i (λ j q. h j (omega arith)))
     (rw z (good-as (kindOf (code nodes i)) n steps (mapNode steps nodes) i (offset steps nodes i) _ _ _ refl (λ j q. map-below steps nodes j i q) (h i (omega arith))))
 
--- ---- the words at a position
-abbrev none : Node
-none = node 0 0 0
-
+-- ---- the node at a position
 good-at : (n : Counts) (k : ℕ) (xs : List Node) → AllGood n k xs → (i : ℕ) → i < length xs
-    → GoodNode n (k + i) (getD xs i none .code) (getD xs i none .first) (getD xs i none .second)
+    → GoodNode n (k + i) (getD xs i noNode .code) (getD xs i noNode .first) (getD xs i noNode .second)
 good-at n k [] g i h = absurd (not-suc-le-zero h)
 good-at n k (x ∷ xs) g zero h = let z : k + 0 ≡ k = omega arith in rw z (g .0)
 good-at n k (x ∷ xs) g (suc i) h = let z : k + suc i ≡ k + 1 + i = omega arith in rw z (good-at n (k + 1) xs (g .1) i (omega arith))
 
-pub words-at : (ns : List Node) (i : ℕ)
-    → (code (wordsOf ns) i ≡ getD ns i none .code) × (first (wordsOf ns) i ≡ getD ns i none .first) × (second (wordsOf ns) i ≡ getD ns i none .second)
-words-at [] i = (refl, refl, refl)
-words-at (x ∷ xs) zero = (refl, refl, refl)
-words-at (x ∷ xs) (suc i) =
-    let z : 3 * suc i ≡ suc (suc (suc (3 * i))) = omega arith in
-    let z₁ : 3 * suc i + 1 ≡ suc (suc (suc (3 * i + 1))) = omega arith in
-    let z₂ : 3 * suc i + 2 ≡ suc (suc (suc (3 * i + 2))) = omega arith in
-    let h = words-at xs i in
-    (rw z (h .0), rw z₁ (h .1), rw z₂ (h .2))
-
--- EACH EXPANDED NODE of a block whose nodes are sound, by its position
-pub expanded-node : (b : Block) → ((i : ℕ) → i < nodeCount b → Sound (countsOf b) (b .nodes) i) → (k : ℕ) → k < expandedLength b
+-- EACH EXPANDED NODE of a valid block, by its position
+pub good-node : (b : Block) → Valid b → (k : ℕ) → k < expandedLength b
     → GoodNode (countsOf b) k (code (wordsOf (expansion b)) k) (first (wordsOf (expansion b)) k) (second (wordsOf (expansion b)) k)
-expanded-node b sound k h =
-    let g = good-at (countsOf b) 0 (expansion b) (good-to (countsOf b) _ (b .nodes) (nodeCount b) sound) k (omega (arith, expansion-length b)) in
+good-node b valid k h =
+    let g = good-at (countsOf b) 0 (expansion b) (good-to (countsOf b) _ (b .nodes) (nodeCount b) (valid .sound)) k (omega (arith, expansion-length b)) in
     let z : 0 + k ≡ k = omega arith in
     let w = words-at (expansion b) k in
     rw (w .0, w .1, w .2) (rw z at g)
@@ -258,3 +229,16 @@ good-operands-as Unknown n k x y h = absurd h
 
 pub good-operands : (n : Counts) (k c x y : ℕ) → GoodNode n k c x y → (1 ≤ operandsOf (kindOf c) → x < k) × (2 ≤ operandsOf (kindOf c) → y < k)
 good-operands n k c x y h = good-operands-as (kindOf c) n k x y h
+
+-- ---- the output and the updates
+
+-- the mapped output is an expanded node
+pub output-mapped : (b : Block) → Valid b → mappedOutput b < expandedLength b
+output-mapped b valid = map-below _ (b .nodes) _ _ (valid .output)
+
+-- so is every mapped update; 0 stays none
+pub state-update-mapped : (b : Block) → Valid b → (i : ℕ) → i < stateCount b → mappedUpdate b (b .states) i ≤ expandedLength b
+state-update-mapped b valid i h = map-update-le _ (b .nodes) _ _ (valid .stateUpdates i h)
+
+pub delay-update-mapped : (b : Block) → Valid b → (i : ℕ) → i < delayCount b → mappedUpdate b (b .delays) i ≤ expandedLength b
+delay-update-mapped b valid i h = map-update-le _ (b .nodes) _ _ (valid .delayUpdates i h)

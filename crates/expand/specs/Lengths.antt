@@ -15,6 +15,7 @@ use Rattle.block.specs.Kinds.{kindOf, lengthOf, recipLength, tanhLength, nodeLe
 use Rattle.block.specs.Validation.{expandedLength}
 use Rattle.expand.specs.Nodes.{Node, wordsOf}
 use Rattle.expand.specs.Macros.{newton, recip, tanh, sigmoid, divide}
+use Rattle.expand.specs.Words.{words-length}
 use Rattle.expand.specs.Expansion.{expandAs, mapNode, expandNode, expandTo, expansion, mapUpdate}
 
 -- ---- each macro is as long as its length
@@ -65,14 +66,6 @@ to-length steps nodes (suc i) = simp (length-append, to-length steps nodes i, no
 
 pub expansion-length : (b : Block) → length (expansion b) ≡ expandedLength b
 expansion-length b = to-length _ (b .nodes) (nodeCount b)
-
-pub words-length : (ns : List Node) → length (wordsOf ns) ≡ 3 * length ns
-words-length [] = refl
-words-length (n ∷ ns) = let h = words-length ns in omega arith
-
-pub words-append : (xs ys : List Node) → wordsOf (xs ++ ys) ≡ wordsOf xs ++ wordsOf ys
-words-append [] ys = refl
-words-append (x ∷ xs) ys = rw (words-append xs ys)
 
 -- "a lent table of 3N words, N the expanded length"
 pub expansion-words-length : (b : Block) → length (wordsOf (expansion b)) ≡ 3 * expandedLength b

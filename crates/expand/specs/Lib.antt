@@ -3,6 +3,10 @@ pub mod Nodes
 pub mod Macros
 pub mod Expansion
 pub mod Graph
+pub mod Words
 pub mod Lengths
 pub mod Good
 pub mod Plain
+pub mod Network
+pub mod Writes
+pub mod Examples

@@ -18,7 +18,8 @@ use Rattle.block.specs.Block.{Block, nodeCount, code, first, second}
 use Rattle.block.specs.Kinds.{kindOf, lengthOf, nodeLength, offset, tanhSteps}
 use Rattle.expand.specs.Nodes.{Node, node, wordsOf}
 use Rattle.expand.specs.Expansion.{expandAs, mapNode, expandNode, expandTo, expansion}
-use Rattle.expand.specs.Lengths.{offset-start, offset-next, words-append}
+use Rattle.expand.specs.Words.{words-append}
+use Rattle.expand.specs.Lengths.{offset-start, offset-next}
 use Rattle.expand.specs.Good.{kind-unknown}
 
 -- `Node::is_macro`: 11 div, 14 recip, 15 tanh, 16 sigmoid

@@ -1,4 +1,6 @@
 // The expansion of a block: every macro node as primitive nodes (document 01, module 2).
+mod macros;
+
 use answers::Refusal;
 
 // What an accepted expansion tells besides the table: how many nodes it has and which of them is the output.
