@@ -9,4 +9,8 @@ pub mod Good
 pub mod Plain
 pub mod Network
 pub mod Writes
+pub mod GraphLaws
+pub mod Map
+pub mod MapLaws
+pub mod InPlace
 pub mod Examples

@@ -1,5 +1,6 @@
 // The expansion of a block: every macro node as primitive nodes (document 01, module 2).
 mod macros;
+mod nodes;
 
 use answers::Refusal;
 
