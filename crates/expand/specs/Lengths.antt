@@ -90,6 +90,11 @@ pub node-positive : (steps : ℕ) (nodes : List ℕ) (i : ℕ) → 1 ≤ nodeLen
 unfolding nodeLength
 node-positive steps nodes i = length-positive steps (kindOf (code nodes i))
 
+-- as the code finds it: by the node's kind
+pub length-is : (steps : ℕ) (nodes : List ℕ) (i : ℕ) {kind : Kind} {l : ℕ} → l ≡ lengthOf steps kind → kind ≡ kindOf (code nodes i) → l ≡ nodeLength steps nodes i
+unfolding nodeLength
+length-is steps nodes i e f = e ∙ ap (lengthOf steps) f
+
 -- ---- where node i's expansion starts
 pub offset-start : (steps : ℕ) (nodes : List ℕ) → offset steps nodes 0 ≡ 0
 unfolding sum

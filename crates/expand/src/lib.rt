@@ -1,8 +1,12 @@
 // The expansion of a block: every macro node as primitive nodes (document 01, module 2).
 mod macros;
+mod map;
 mod nodes;
 
 use answers::Refusal;
+use block::kinds;
+ghost use mathlib.Core.Path.{_≡_};
+ghost use Rattle.expand.specs.Map.{mapWithin, mapUpdateWithin, mapping, mapCall};
 
 // What an accepted expansion tells besides the table: how many nodes it has and which of them is the output.
 pub struct Expanded {
@@ -14,4 +18,41 @@ pub struct Expanded {
 pub enum Expansion {
     Accepted(Expanded),
     Refused(Refusal),
+}
+
+// The last expanded node of each node over the table's first words, and true. Where the table has fewer words than there are nodes, or the expansion
+// is over the limit, nothing is written and the answer is false.
+pub fn map_nodes(nodes: &[u32], table: &mut [u32]) -> bool
+    ensures { λ r. ⌜ mapping r (now (table .exit)) ≡ mapCall (now (nodes .entry)) (now (table .entry)) ⌝ }
+{
+    if table.len() < nodes.len() / 3 {
+        return false;
+    }
+    if 65_536 < kinds::expanded_length(nodes) {
+        return false;
+    }
+    map::write_map(nodes, table, kinds::TANH_STEPS);
+    true
+}
+
+// The last expanded node of one node. 65,536 stands for a node past the table, and for a last node that is not below it.
+pub fn mapped_node(nodes: &[u32], node: u32) -> u32
+    ensures { λ r. ⌜ r ≡ mapWithin (now (nodes .entry)) node ⌝ }
+{
+    let index = node as usize;
+    if nodes.len() / 3 <= index {
+        return 65_536;
+    }
+    let end = 3 * (index + 1);
+    (kinds::expanded_length(&nodes[..end]) - 1) as u32
+}
+
+// An update through the map: 0 stays none.
+pub fn mapped_update(nodes: &[u32], update: u32) -> u32
+    ensures { λ r. ⌜ r ≡ mapUpdateWithin (now (nodes .entry)) update ⌝ }
+{
+    if update == 0 {
+        return 0;
+    }
+    mapped_node(nodes, update - 1) + 1
 }
