@@ -1,11 +1,9 @@
 -- Each macro between an input and a neg, as the Rust's expander gives it, by computation. The words are in rows of records: code, first, second.
 use mathlib.Core.Path.{_≡_, refl}
-use mathlib.Core.List.{List, [], _∷_, _++_}
-use Prim.Native.Nat.{ℕ}
-use lib.ListN.{length}
+use mathlib.Core.List.{[], _∷_, _++_}
 use Rattle.tables.specs.Loops.{sum}
 use Rattle.block.specs.Kinds.{kindOf, nodeLength, tanhSteps}
-use Rattle.expand.specs.Nodes.{Node, wordsOf}
+use Rattle.expand.specs.Nodes.{wordsOf}
 use Rattle.expand.specs.Macros.{recip, tanh, sigmoid, divide}
 use Rattle.expand.specs.Expansion.{expandNode, expandTo, mapNode}
 

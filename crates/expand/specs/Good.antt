@@ -1,25 +1,24 @@
 -- Of a valid block every expanded node is good: its code is primitive, its operands stand before it, its index is below its table's count, its unused words are 0.
 -- Said over the words of the expansion, `wordsOf (expansion b)`, so that who reads the table needs no list of nodes.
-use mathlib.Core.Path.{_≡_, refl, sym, ap, _∙_}
-use mathlib.Core.Bool.{Bool, true, false, not, _&&_, _||_}
+use mathlib.Core.Path.{_≡_, refl}
+use mathlib.Core.Bool.{Bool, true, false, _||_}
 use mathlib.Core.List.{List, [], _∷_, _++_}
-use mathlib.Core.Logic.{_⊎_, inl, inr}
-use Prim.Native.Nat.{ℕ, zero, suc, _+_, _-_, _*_, _≤_, _<_}
+use Prim.Native.Nat.{ℕ, zero, suc, _+_, _-_, _≤_, _<_}
 use native.Mathlib.Nat.{not-suc-le-zero}
 use native.Mathlib.Omega.{arith}
 use native.Mathlib.Decide.{decLt}
 use lib.ListN.{length, getD}
-use lib.Dec.{leb, ltb, eqb}
-use borrow.Author.Tests.{le-ltb, ne-eqb}
+use lib.Dec.{leb, eqb}
 use Rattle.tables.specs.Tests.{_&_, true-false}
 use Rattle.tables.specs.Loops.{every, every-true}
 use Rattle.block.specs.declared.Kind.{Kind}
 use Rattle.block.specs.declared.Kind.the-variants.{Source, Constant, Parameter, State, Delay, Binary, Divide, Unary, Recip, Tanh, Sigmoid, Unknown}
 use Rattle.block.specs.Block.{Block, stateCount, delayCount, nodeCount, code, first, second}
-use Rattle.block.specs.Kinds.{kindOf, operandsOf, recipLength, nodeLength, offset}
+use Rattle.block.specs.Kinds.{kindOf, operandsOf, recipLength, offset}
+use Rattle.block.specs.KindLaws.{kind-unknown}
 use Rattle.block.specs.Validation.{Counts, countsOf, expandedLength}
 use Rattle.block.specs.Valid.{SoundWords, Sound, Valid}
-use Rattle.expand.specs.Nodes.{Node, node, mul, wordsOf}
+use Rattle.expand.specs.Nodes.{Node, mul, wordsOf}
 use Rattle.expand.specs.Words.{noNode, words-at}
 use Rattle.expand.specs.Macros.{newton, recip, tanhInput, tanhNumerator, tanhDenominator, tanhFraction, tanh, sigmoid, divide}
 use Rattle.expand.specs.Expansion.{expandAs, mapNode, expandNode, expandTo, expansion, mappedOutput}
@@ -147,24 +146,6 @@ good-node b valid k h =
 
 -- ---- what a good node's words say
 
-pub kind-unknown : (c : ℕ) → 18 ≤ c → kindOf c ≡ Unknown
-unfolding kindOf
-kind-unknown c h =
-    rw (
-      ne-eqb c 0 (omega arith),
-      ne-eqb c 1 (omega arith),
-      ne-eqb c 2 (omega arith),
-      ne-eqb c 3 (omega arith),
-      ne-eqb c 4 (omega arith),
-      le-ltb c 11 (omega arith),
-      ne-eqb c 11 (omega arith),
-      le-ltb c 14 (omega arith),
-      ne-eqb c 14 (omega arith),
-      ne-eqb c 15 (omega arith),
-      ne-eqb c 16 (omega arith),
-      ne-eqb c 17 (omega arith),
-    )
-
 -- its code is one of 0 to 10, 12, 13 and 17
 unfoldable pub primitive : ℕ → Bool
 primitive c = leb c 10 || eqb c 12 || eqb c 13 || eqb c 17
@@ -210,7 +191,8 @@ good-primitive n k c x y h = go (decLt c 18) (good-kind (kindOf c) n k x y h)
   where
     go : Dec (c < 18) → replaced (kindOf c) ≡ false → primitive c ≡ true
     go (yes l) e = rw e at (every-true listed 18 every-code c l)
-    go (no l) e = true-false (rw (kind-unknown c (omega arith)) at e)
+    go (no l) e =
+        true-false (rw (kind-unknown c (omega arith) (λ q. omega arith) (λ q. omega arith) (λ q. omega arith) (λ q. omega arith)) at e)
 
 -- its operands stand before it
 good-operands-as : (kind : Kind) (n : Counts) (k x y : ℕ) → GoodAs kind n k x y → (1 ≤ operandsOf kind → x < k) × (2 ≤ operandsOf kind → y < k)

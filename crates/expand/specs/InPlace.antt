@@ -1,20 +1,20 @@
 -- The expansion written in place, without a work table: the map stands at the table's start, and the nodes are written from the last to the first. Node i's
 -- expansion starts no sooner than word 3i, behind the words of the map that its operands and the nodes before it still read.
-use mathlib.Core.Path.{_≡_, refl, sym, ap, _∙_}
-use mathlib.Core.Bool.{Bool, true, false, cond}
-use mathlib.Core.List.{List, [], _∷_, _++_, append-assoc, append-nil}
-use Prim.Native.Nat.{ℕ, zero, suc, _+_, _-_, _*_, _/_, _≤_, _<_, min}
-use native.Mathlib.Nat.{not-suc-le-zero}
+use mathlib.Core.Path.{_≡_, refl, ap, _∙_}
+use mathlib.Core.Bool.{cond}
+use mathlib.Core.List.{List, [], _++_, append-assoc, append-nil}
+use Prim.Native.Nat.{ℕ, zero, suc, _+_, _-_, _*_, _/_, _≤_, _<_}
 use native.Mathlib.Omega.{arith}
 use lib.ListN.{length, getD, drop}
-use lib.Seq.{drop-drop}
-use lib.Dec.{leb, ltb}
+use lib.Dec.{leb}
 use borrow.Author.Tests.{leb-true}
 use Rattle.tables.specs.Tests.{cond-arms}
 use Rattle.block.specs.declared.Kind.{Kind}
 use Rattle.block.specs.declared.Kind.the-variants.{Source, Constant, Parameter, State, Delay, Binary, Divide, Unary, Recip, Tanh, Sigmoid, Unknown}
 use Rattle.block.specs.Block.{code, first, second}
 use Rattle.block.specs.Kinds.{kindOf, operandsOf, nodeLength, offset}
+use Rattle.block.specs.Validation.{Counts}
+use Rattle.block.specs.Valid.{SoundWords, Sound}
 use Rattle.expand.specs.Nodes.{Node, wordsOf}
 use Rattle.expand.specs.Words.{words-append}
 use Rattle.expand.specs.Expansion.{expandAs, mapNode, expandNode, expandTo}
@@ -36,6 +36,23 @@ Mapped steps nodes n l = (j : ℕ) → j < n → getD l j 0 ≡ mapNode steps no
 pub record Below (nodes : List ℕ) (i : ℕ) : Type 0 where
   pub lhs : 1 ≤ operandsOf (kindOf (code nodes i)) → first nodes i < i
   pub rhs : 2 ≤ operandsOf (kindOf (code nodes i)) → second nodes i < i
+
+below-words : (kind : Kind) (n : Counts) (i x y : ℕ) → SoundWords kind n i x y → (1 ≤ operandsOf kind → x < i) × (2 ≤ operandsOf kind → y < i)
+below-words Source n i x y h = (λ l. absurd (omega arith), λ l. absurd (omega arith))
+below-words Constant n i x y h = (λ l. absurd (omega arith), λ l. absurd (omega arith))
+below-words Parameter n i x y h = (λ l. absurd (omega arith), λ l. absurd (omega arith))
+below-words State n i x y h = (λ l. absurd (omega arith), λ l. absurd (omega arith))
+below-words Delay n i x y h = (λ l. absurd (omega arith), λ l. absurd (omega arith))
+below-words Binary n i x y h = (λ l. h .0, λ l. h .1)
+below-words Divide n i x y h = (λ l. h .0, λ l. h .1)
+below-words Unary n i x y h = (λ l. h .0, λ l. absurd (omega arith))
+below-words Recip n i x y h = (λ l. h .0, λ l. absurd (omega arith))
+below-words Tanh n i x y h = (λ l. h .0, λ l. absurd (omega arith))
+below-words Sigmoid n i x y h = (λ l. h .0, λ l. absurd (omega arith))
+below-words Unknown n i x y h = absurd h
+
+pub below-sound : (n : Counts) (nodes : List ℕ) (i : ℕ) → Sound n nodes i → Below nodes i
+below-sound n nodes i h = let p = below-words (kindOf (code nodes i)) n i (first nodes i) (second nodes i) h in record { lhs = p .0; rhs = p .1 }
 
 -- what the expansion of node i at position k into l wants
 pub record Ready (steps : ℕ) (nodes l : List ℕ) (i k : ℕ) : Type 0 where

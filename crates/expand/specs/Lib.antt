@@ -13,4 +13,5 @@ pub mod GraphLaws
 pub mod Map
 pub mod MapLaws
 pub mod InPlace
+pub mod Calls
 pub mod Examples

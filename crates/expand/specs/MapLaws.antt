@@ -1,6 +1,6 @@
 -- What the functions on the map cite, and that for a valid block they give the map itself.
 use mathlib.Core.Path.{_≡_, refl, sym, ap, _∙_}
-use mathlib.Core.Bool.{Bool, true, false, cond, _&&_}
+use mathlib.Core.Bool.{true, false}
 use mathlib.Core.List.{List, [], _∷_, _++_}
 use Prim.Native.Nat.{ℕ, zero, suc, _+_, _-_, _*_, _/_, _≤_, _<_, min}
 use native.Mathlib.Nat.{zero-add}
@@ -8,11 +8,11 @@ use native.Mathlib.Numerals.{add-one}
 use native.Mathlib.Omega.{arith}
 use lib.ListN.{length, getD, set, take, drop}
 use lib.Seq.{sets, length-sets, sets-eq, drop-at, getD-take, length-take-le}
-use lib.Dec.{leb, ltb}
+use lib.Dec.{ltb}
 use borrow.Author.Tests.{lt-ltb, le-ltb, le-leb, lt-leb}
 use Rattle.tables.specs.Tests.{cond-pred}
 use Rattle.tables.specs.Stores.{sets-append, sets-in}
-use Rattle.block.specs.Block.{Block, nodeCount, code}
+use Rattle.block.specs.Block.{Block, nodeCount}
 use Rattle.block.specs.Kinds.{kindOf, lengthOf, nodeLength, offset, tanhSteps}
 use Rattle.block.specs.Valid.{Valid}
 use Rattle.expand.specs.Expansion.{mapNode, mapUpdate}

@@ -1,21 +1,21 @@
 -- "network node, flag clear" is 4: with the flag clear no expanded node reads the network, since no macro writes such a node.
-use mathlib.Core.Path.{_≡_, refl, sym, ap, _∙_}
-use mathlib.Core.Bool.{Bool, true, false, _||_}
+use mathlib.Core.Path.{_≡_, refl, ap, _∙_}
+use mathlib.Core.Bool.{Bool, false, _||_}
 use mathlib.Core.List.{List, [], _∷_, _++_}
 use Prim.Native.Nat.{ℕ, zero, suc, _+_, _<_}
 use native.Mathlib.Omega.{arith}
 use lib.ListN.{getD}
 use lib.Dec.{eqb}
 use borrow.Author.Tests.{ne-eqb, eqb-false}
-use Rattle.tables.specs.Tests.{neither, or-none}
+use Rattle.tables.specs.Tests.{neither}
 use Rattle.block.specs.declared.Kind.{Kind}
 use Rattle.block.specs.declared.Kind.the-variants.{Source, Constant, Parameter, State, Delay, Binary, Divide, Unary, Recip, Tanh, Sigmoid, Unknown}
-use Rattle.block.specs.Block.{Block, nodeCount, code, first, second}
+use Rattle.block.specs.Block.{Block, nodeCount, code}
 use Rattle.block.specs.Kinds.{kindOf, recipSteps, offset, tanhSteps}
 use Rattle.block.specs.Valid.{Valid}
 use Rattle.expand.specs.Nodes.{Node, wordsOf}
 use Rattle.expand.specs.Words.{noNode, words-at}
-use Rattle.expand.specs.Macros.{newton, recip, tanhFraction, tanh, sigmoid, divide}
+use Rattle.expand.specs.Macros.{newton, recip, tanh, sigmoid, divide}
 use Rattle.expand.specs.Expansion.{expandAs, mapNode, expandNode, expandTo, expansion}
 
 -- some node of the list reads the network

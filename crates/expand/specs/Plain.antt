@@ -1,26 +1,25 @@
 -- "A block without macro nodes is returned unchanged": its expansion is its node table, and each node is its own last expanded node.
 use mathlib.Core.Path.{_≡_, refl, sym, ap, _∙_}
 use mathlib.Core.Bool.{Bool, true, false, not, _||_}
-use mathlib.Core.List.{List, [], _∷_, _++_, append-assoc}
+use mathlib.Core.List.{List, [], _∷_, append-assoc}
 use Prim.Native.Nat.{ℕ, zero, suc, _+_, _-_, _*_, _/_, _%_, _≤_, _<_}
 use native.Mathlib.Nat.{div-add-mod'}
 use native.Mathlib.Decide.{decLt}
 use native.Mathlib.Omega.{arith}
-use lib.ListN.{length, getD, take, List·getD-eq-default}
+use lib.ListN.{length, take, List·getD-eq-default}
 use lib.Seq.{take-suc, take-all}
 use lib.Dec.{eqb}
-use borrow.Author.Tests.{ne-eqb}
 use Rattle.tables.specs.Tests.{_&_, true-false}
 use Rattle.tables.specs.Loops.{some, some-false, every, every-true}
 use Rattle.block.specs.declared.Kind.{Kind}
 use Rattle.block.specs.declared.Kind.the-variants.{Source, Constant, Parameter, State, Delay, Binary, Divide, Unary, Recip, Tanh, Sigmoid, Unknown}
 use Rattle.block.specs.Block.{Block, nodeCount, code, first, second}
 use Rattle.block.specs.Kinds.{kindOf, lengthOf, nodeLength, offset, tanhSteps}
-use Rattle.expand.specs.Nodes.{Node, node, wordsOf}
+use Rattle.block.specs.KindLaws.{kind-unknown}
+use Rattle.expand.specs.Nodes.{node, wordsOf}
 use Rattle.expand.specs.Expansion.{expandAs, mapNode, expandNode, expandTo, expansion}
 use Rattle.expand.specs.Words.{words-append}
 use Rattle.expand.specs.Lengths.{offset-start, offset-next}
-use Rattle.expand.specs.Good.{kind-unknown}
 
 -- `Node::is_macro`: 11 div, 14 recip, 15 tanh, 16 sigmoid
 unfoldable pub isMacro : ℕ → Bool
@@ -69,7 +68,7 @@ plain-kind c e = go (decLt c 18)
 
     go : Dec (c < 18) → macroKind (kindOf c) ≡ false
     go (yes l) = not-not _ (rw e at (every-true agrees 18 every-code c l))
-    go (no l) = rw (kind-unknown c (omega arith))
+    go (no l) = rw (kind-unknown c (omega arith) (λ q. omega arith) (λ q. omega arith) (λ q. omega arith) (λ q. omega arith))
 
 plain-length : (steps : ℕ) (kind : Kind) → macroKind kind ≡ false → lengthOf steps kind ≡ 1
 plain-length steps Source e = refl

@@ -1,11 +1,15 @@
 // The expansion of a block: every macro node as primitive nodes (document 01, module 2).
+mod in_place;
 mod macros;
 mod map;
-mod nodes;
 
 use answers::Refusal;
+use answers::Verdict;
+use block::Header;
 use block::kinds;
 ghost use mathlib.Core.Path.{_≡_};
+ghost use Rattle.block.specs.Block.{block};
+ghost use Rattle.expand.specs.Expansion.{answerOf, outcome, expandCall};
 ghost use Rattle.expand.specs.Map.{mapWithin, mapUpdateWithin, mapping, mapCall};
 
 // What an accepted expansion tells besides the table: how many nodes it has and which of them is the output.
@@ -18,6 +22,37 @@ pub struct Expanded {
 pub enum Expansion {
     Accepted(Expanded),
     Refused(Refusal),
+}
+
+// Validates a block and writes its expansion, three words a node, into a lent table: 13 where the table is too short. A refusal leaves the table.
+pub fn expand(
+    header: Header,
+    parameters: &[u32],
+    states: &[u32],
+    delays: &[u32],
+    nodes: &[u32],
+    table: &mut [u32],
+) -> Expansion
+    ensures { λ r. ⌜ outcome (answerOf r) (now (table .exit))
+        ≡ expandCall (block header (now (parameters .entry)) (now (states .entry)) (now (delays .entry)) (now (nodes .entry))) (now (table .entry)) ⌝ }
+{
+    let verdict = block::validate(header, parameters, states, delays, nodes);
+    if let Verdict::Refused(refusal) = verdict {
+        return Expansion::Refused(refusal);
+    }
+    let total = kinds::expanded_length(nodes);
+    if table.len() < 3 * total {
+        return Expansion::Refused(Refusal::TableTooShort);
+    }
+    map::write_map(nodes, table, kinds::TANH_STEPS);
+    // The map's word of the output, before the nodes are written over the map.
+    let index = header.output as usize;
+    let output = table[index];
+    in_place::expand_nodes(nodes, table, total, kinds::TANH_STEPS);
+    Expansion::Accepted(Expanded {
+        length: total as u32,
+        output,
+    })
 }
 
 // The last expanded node of each node over the table's first words, and true. Where the table has fewer words than there are nodes, or the expansion

@@ -6,9 +6,6 @@ use Rattle.expand.specs.MapLaws.{within-small, update-within-is}
 use Rattle.expand.proofs.mapped_update.Statement.{statement}
 use Rattle.expand.proofs.mapped_update.Tie as tie
 
-returns : tie.Need-returns
-returns c = search needs
-
 add-result : tie.Need-add-result
 add-result c = omega (arith, within-small (c .before .before .before .args .nodes .now) (c .before .before .before .args .update - 1))
 
@@ -17,4 +14,4 @@ returns-2 c = update-within-is (c .before .before .before .args .nodes .now) (c 
 
 pub mapped-update-spec : {M : Type 1} → statement M
 mapped-update-spec =
-    tie.close (tie.spec returns (λ c. search needs) (λ c κs. search needs) add-result returns-2)
+    tie.close (tie.spec (λ c. search needs) (λ c. search needs) (λ c κs. search needs) add-result returns-2)

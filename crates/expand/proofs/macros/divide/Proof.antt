@@ -3,7 +3,7 @@ use borrow.Author.Needs.{needs}
 use native.Mathlib.Omega.{arith}
 use Rattle.expand.specs.Lengths.{recip-length}
 use Rattle.expand.specs.Writes.{join}
-use Rattle.expand.specs.Macros.{recip, divide}
+use Rattle.expand.specs.Macros.{divide}
 use Rattle.expand.proofs.macros.divide.Statement.{statement}
 use Rattle.expand.proofs.macros.divide.Tie as tie
 

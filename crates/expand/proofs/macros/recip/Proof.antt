@@ -2,7 +2,7 @@
 use borrow.Author.Needs.{needs}
 use native.Mathlib.Omega.{arith}
 use Rattle.expand.specs.Writes.{join}
-use Rattle.expand.specs.Macros.{newton, recip}
+use Rattle.expand.specs.Macros.{recip}
 use Rattle.expand.proofs.macros.recip.Statement.{statement}
 use Rattle.expand.proofs.macros.recip.Tie as tie
 

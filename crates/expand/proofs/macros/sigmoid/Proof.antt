@@ -4,7 +4,7 @@ use native.Mathlib.Omega.{arith}
 use Prim.Native.Nat.{_+_}
 use Rattle.expand.specs.Lengths.{tanh-length}
 use Rattle.expand.specs.Writes.{join}
-use Rattle.expand.specs.Macros.{tanh, sigmoid}
+use Rattle.expand.specs.Macros.{sigmoid}
 use Rattle.expand.proofs.macros.sigmoid.Statement.{statement}
 use Rattle.expand.proofs.macros.sigmoid.Tie as tie
 

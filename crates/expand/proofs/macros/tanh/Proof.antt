@@ -4,7 +4,7 @@ use native.Mathlib.Omega.{arith}
 use Prim.Native.Nat.{_+_}
 use Rattle.expand.specs.Lengths.{recip-length}
 use Rattle.expand.specs.Writes.{join}
-use Rattle.expand.specs.Macros.{recip, tanh}
+use Rattle.expand.specs.Macros.{tanh}
 use Rattle.expand.proofs.macros.tanh.Statement.{statement}
 use Rattle.expand.proofs.macros.tanh.Tie as tie
 

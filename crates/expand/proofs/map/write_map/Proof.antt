@@ -1,7 +1,7 @@
 -- `write_map`: turn i stores node i's last expanded node, one less than the lengths so far. Assumes nothing.
 use borrow.Author.Needs.{needs}
-use mathlib.Core.Path.{_≡_, ap, _∙_}
-use Prim.Native.Nat.{_-_, _/_}
+use mathlib.Core.Path.{ap, _∙_}
+use Prim.Native.Nat.{_-_}
 use native.Mathlib.Omega.{arith}
 use lib.ListN.{length}
 use Rattle.expand.specs.Lengths.{length-is}
@@ -18,26 +18,6 @@ abbrev μ-loop : tie.MeasureT-loop
 loop-holds : tie.Need-loop-holds Inv-loop μ-loop
 loop-holds c = filling-start _ _ _ _
 
--- src/map.rt:18:18
-mul-at : tie.Need-mul-at Inv-loop μ-loop
-mul-at c = search needs
-
--- src/map.rt:19:47
-mul-kind : tie.Need-mul-kind Inv-loop μ-loop
-mul-kind c = search needs
-
--- src/map.rt:19:47
-shared-slice-read-kind : tie.Need-shared-slice-read-kind Inv-loop μ-loop
-shared-slice-read-kind c = search needs
-
--- src/map.rt:19:35
-kind-requires : tie.Need-kind-requires Inv-loop μ-loop
-kind-requires c κs = search needs
-
--- src/map.rt:19:18
-length-of-requires : tie.Need-length-of-requires Inv-loop μ-loop
-length-of-requires c κs = search needs
-
 add-total : tie.Need-add-total Inv-loop μ-loop
 add-total c = omega (arith, filling-small _ _ _ _ _ _ _ _ (c .before .before .before .before .loop .inv) (c .before .before .before .loop-test .taken) (length-is (c .before .before .before .before .before .before .before .args .steps) (c .before .before .before .before .before .before .before .args .nodes .now) (c .before .before .before .before .loop .i) (c .length-of .ensures) (c .before .kind .ensures)) (c .before .before .before .before .before .before .before .pre .1))
 
@@ -52,14 +32,6 @@ mul-table c = omega (arith, ap length (c .before .before .before .before .loop .
 
 slice-write-table : tie.Need-slice-write-table Inv-loop μ-loop
 slice-write-table c = omega (arith, ap length (c .before .before .before .before .loop .inv .filled) ∙ over-length (c .before .before .before .before .before .before .before .args .steps) (c .before .before .before .before .before .before .before .args .nodes .now) (c .before .before .before .before .loop .i) (c .before .before .before .before .before .before .before .args .table .now))
-
--- src/map.rt:21:9
-add-i : tie.Need-add-i Inv-loop μ-loop
-add-i c = search needs
-
--- src/map.rt:17:5
-loop-less : tie.Need-loop-less Inv-loop μ-loop
-loop-less c = search needs
 
 loop-again : tie.Need-loop-again Inv-loop μ-loop
 loop-again c = filling-next _ _ _ _ _ _ _ _ (c .before .before .before .before .loop .inv) (c .before .before .before .loop-test .taken) (length-is (c .before .before .before .before .before .before .before .args .steps) (c .before .before .before .before .before .before .before .args .nodes .now) (c .before .before .before .before .loop .i) (c .length-of .ensures) (c .before .kind .ensures))
@@ -77,18 +49,18 @@ write-map-spec =
     Inv-loop
     μ-loop
     loop-holds
-    mul-at
-    mul-kind
-    shared-slice-read-kind
-    kind-requires
-    length-of-requires
+    (λ c. search needs)
+    (λ c. search needs)
+    (λ c. search needs)
+    (λ c κs. search needs)
+    (λ c κs. search needs)
     add-total
     sub-table
     cast-table
     mul-table
     slice-write-table
-    add-i
-    loop-less
+    (λ c. search needs)
+    (λ c. search needs)
     loop-again
     same-length
     returns)

@@ -1,12 +1,11 @@
 -- `expand_nodes`: at each turn the nodes from i on stand written and the map of the nodes before them is still there. Assumes nothing.
 use borrow.Author.Needs.{needs}
-use mathlib.Core.Path.{_≡_, ap, _∙_}
-use Prim.Native.Nat.{_-_, _+_}
+use Prim.Native.Nat.{_-_}
 use native.Mathlib.Omega.{arith}
 use Rattle.expand.specs.Lengths.{length-is}
 use Rattle.expand.specs.InPlace.{Going, going-start, going-back, end-covers, end-small, going-ready, going-turn, going-done}
-use Rattle.expand.proofs.nodes.expand_nodes.Statement.{statement}
-use Rattle.expand.proofs.nodes.expand_nodes.Tie as tie
+use Rattle.expand.proofs.in_place.expand_nodes.Statement.{statement}
+use Rattle.expand.proofs.in_place.expand_nodes.Tie as tie
 
 abbrev Inv-loop : tie.InvT-loop
 Inv-loop nodes table₀ total steps count i₀ end₀ table i end = Going steps nodes table₀ total table i end
@@ -17,30 +16,6 @@ abbrev μ-loop : tie.MeasureT-loop
 loop-holds : tie.Need-loop-holds Inv-loop μ-loop
 loop-holds c = going-start _ _ _ _ (c .before .before .pre)
 
--- src/nodes.rt:82:9
-sub-i : tie.Need-sub-i Inv-loop μ-loop
-sub-i c = search needs
-
--- src/nodes.rt:83:18
-mul-at : tie.Need-mul-at Inv-loop μ-loop
-mul-at c = search needs
-
--- src/nodes.rt:84:45
-mul-kind : tie.Need-mul-kind Inv-loop μ-loop
-mul-kind c = search needs
-
--- src/nodes.rt:84:45
-shared-slice-read-kind : tie.Need-shared-slice-read-kind Inv-loop μ-loop
-shared-slice-read-kind c = search needs
-
--- src/nodes.rt:84:33
-kind-requires : tie.Need-kind-requires Inv-loop μ-loop
-kind-requires c κs = search needs
-
--- src/nodes.rt:84:16
-length-of-requires : tie.Need-length-of-requires Inv-loop μ-loop
-length-of-requires c κs = search needs
-
 sub-end : tie.Need-sub-end Inv-loop μ-loop
 sub-end c = let g = going-back _ _ _ _ _ _ _ (c .before .before .before .loop-test .taken) (c .before .before .before .before .loop .inv) in omega (arith, end-covers _ _ _ _ _ _ _ (c .before .before .before .before .before .before .before .pre) g, length-is (c .before .before .before .before .before .before .before .args .steps) (c .before .before .before .before .before .before .before .args .nodes .now) (c .before .before .before .before .loop .i - 1) (c .length-of .ensures) (c .before .kind .ensures))
 
@@ -49,10 +24,6 @@ cast-expand-node c = let g = going-back _ _ _ _ _ _ _ (c .before .before .before
 
 expand-node-requires : tie.Need-expand-node-requires Inv-loop μ-loop
 expand-node-requires c κs = let g = going-back _ _ _ _ _ _ _ (c .before .before .before .before .loop-test .taken) (c .before .before .before .before .before .loop .inv) in going-ready _ _ _ _ _ _ _ (c .before .before .before .before .before .before .before .before .pre) g _ (omega (arith, end-covers _ _ _ _ _ _ _ (c .before .before .before .before .before .before .before .before .pre) g, length-is (c .before .before .before .before .before .before .before .before .args .steps) (c .before .before .before .before .before .before .before .before .args .nodes .now) (c .before .before .before .before .before .loop .i - 1) (c .before .length-of .ensures) (c .before .before .kind .ensures)))
-
--- src/nodes.rt:81:5
-loop-less : tie.Need-loop-less Inv-loop μ-loop
-loop-less c = search needs
 
 loop-again : tie.Need-loop-again Inv-loop μ-loop
 loop-again c = let g = going-back _ _ _ _ _ _ _ (c .before .before .before .before .before .before .before .loop-test .taken) (c .before .before .before .before .before .before .before .before .loop .inv) in going-turn _ _ _ _ _ _ _ (c .before .before .before .before .before .before .before .before .before .before .before .pre) g _ _ (omega (arith, end-covers _ _ _ _ _ _ _ (c .before .before .before .before .before .before .before .before .before .before .before .pre) g, length-is (c .before .before .before .before .before .before .before .before .before .before .before .args .steps) (c .before .before .before .before .before .before .before .before .before .before .before .args .nodes .now) (c .before .before .before .before .before .before .before .before .loop .i - 1) (c .before .before .before .before .length-of .ensures) (c .before .before .before .before .before .kind .ensures))) (c .before .before .expand-node .ensures)
@@ -70,16 +41,16 @@ expand-nodes-spec =
     Inv-loop
     μ-loop
     loop-holds
-    sub-i
-    mul-at
-    mul-kind
-    shared-slice-read-kind
-    kind-requires
-    length-of-requires
+    (λ c. search needs)
+    (λ c. search needs)
+    (λ c. search needs)
+    (λ c. search needs)
+    (λ c κs. search needs)
+    (λ c κs. search needs)
     sub-end
     cast-expand-node
     expand-node-requires
-    loop-less
+    (λ c. search needs)
     loop-again
     same-length
     returns)

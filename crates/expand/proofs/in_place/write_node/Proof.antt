@@ -3,8 +3,8 @@ use borrow.Author.Needs.{needs}
 use mathlib.Core.Path.{ap}
 use native.Mathlib.Omega.{arith}
 use Rattle.block.specs.Kinds.{lengthOf}
-use Rattle.expand.proofs.nodes.write_node.Statement.{statement}
-use Rattle.expand.proofs.nodes.write_node.Tie as tie
+use Rattle.expand.proofs.in_place.write_node.Statement.{statement}
+use Rattle.expand.proofs.in_place.write_node.Tie as tie
 
 pub write-node-spec : {M : Type 1} → statement M
 write-node-spec =

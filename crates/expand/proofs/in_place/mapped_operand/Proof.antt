@@ -3,8 +3,8 @@ use borrow.Author.Needs.{needs}
 use mathlib.Core.Path.{sym}
 use borrow.Author.Tests.{not-true, not-false}
 use lib.ListN.{List·getD-eq-default}
-use Rattle.expand.proofs.nodes.mapped_operand.Statement.{statement}
-use Rattle.expand.proofs.nodes.mapped_operand.Tie as tie
+use Rattle.expand.proofs.in_place.mapped_operand.Statement.{statement}
+use Rattle.expand.proofs.in_place.mapped_operand.Tie as tie
 
 returns : tie.Need-returns
 returns c = rw (not-true (c .before .args .operand) (c .if1 .taken))
