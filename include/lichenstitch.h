@@ -32,6 +32,17 @@ bool lichenstitch_span_is_valid(uint32_t min, uint32_t max, uint32_t default_val
 // A finite word inside min..max.
 bool lichenstitch_in_range(uint32_t min, uint32_t max, uint32_t value);
 
+// A block is a header of five words and four lent tables, each a pointer to its first word and its number of words.
+// The result is the number of the answer, 0 where the block is accepted; what else there is to say goes into the
+// words lent as `answer`, as far as there are words for it.
+
+// Refused: answer[0] is the first bad record's index for 7 and 9 to 12, else 0. Accepted: answer is left as it was.
+uint32_t lichenstitch_validate(uint32_t version, uint32_t category, uint32_t channels, uint32_t network,
+                               uint32_t output, const uint32_t *parameters, size_t parameters_length,
+                               const uint32_t *states, size_t states_length, const uint32_t *delays,
+                               size_t delays_length, const uint32_t *nodes, size_t nodes_length, uint32_t *answer,
+                               size_t answer_length);
+
 #ifdef __cplusplus
 }
 #endif

@@ -68,6 +68,8 @@ static uint32_t word(int inside) {
 static uint32_t room[ROOM], scalar[SCALARS], *slice[SLICES];
 static size_t length[SLICES];
 
+#define HEADER scalar[0], scalar[1], scalar[2], scalar[3], scalar[4]
+#define TABLE(i) slice[i], length[i]
 #define EACH(value)                                            \
     for (size_t i = 0; i < length[0]; i++) last[i] = (value); \
     return 0
@@ -88,6 +90,7 @@ static uint32_t call(uint32_t function, uint32_t slices) {
     case 8: EACH(lichenstitch_is_finite(s[0][i]));
     case 9: EACH(lichenstitch_span_is_valid(s[0][i], s[1][i], s[2][i]));
     case 10: EACH(lichenstitch_in_range(s[0][i], s[1][i], s[2][i]));
+    case 11: return lichenstitch_validate(HEADER, TABLE(0), TABLE(1), TABLE(2), TABLE(3), TABLE(4));
     default: _exit(2);
     }
 }

@@ -1,7 +1,15 @@
 // The C functions: thin calls of the crates that do the work, under one prefix, each with the same
 // promise as what it calls. include/lichenstitch.h declares them for C.
+use answers::Refusal;
+use answers::Verdict;
+use block::Header;
 ghost use mathlib.Core.Path.{_≡_};
 ghost use Rattle.words.specs.Operations.{added, subtracted, multiplied, lesser, greater, negated, absolute, wrappingDifference, isFinite, spanIsValid, inRange};
+ghost use lib.ListN.{set};
+ghost use Rattle.answers.specs.Numbers.{numberOf, valuesOf};
+ghost use Rattle.block.specs.Block.{block};
+ghost use Rattle.block.specs.Validation.{validation};
+ghost use Rattle.capi.specs.Crossing.{crossing, refusedCrossing, verdictCrossing, header};
 
 #[no_mangle]
 pub extern "C" fn lichenstitch_add(lhs: u32, rhs: u32) -> u32
@@ -78,4 +86,52 @@ pub extern "C" fn lichenstitch_in_range(min: u32, max: u32, value: u32) -> bool
     ensures { λ r. ⌜ r ≡ inRange min max value ⌝ }
 {
     words::in_range(min, max, value)
+}
+
+// The value into the first lent word, where there is one.
+fn put(answer: &mut [u32], value: u32)
+    ensures { λ _. ⌜ now (answer .exit) ≡ set (now (answer .entry)) 0 value ⌝ }
+{
+    if answer.len() == 0 {
+        return;
+    }
+    answer[0] = value;
+}
+
+// A refusal's number, and its first value in the first lent word.
+fn refuse(refusal: Refusal, answer: &mut [u32]) -> u32
+    ensures { λ r. ⌜ crossing r (now (answer .exit)) ≡ refusedCrossing (numberOf refusal) (valuesOf refusal) (now (answer .entry)) ⌝ }
+{
+    let value = (answers::value(refusal) % 0x1_0000_0000) as u32;
+    put(answer, value);
+    answers::number(refusal)
+}
+
+#[no_mangle]
+pub extern "C" fn lichenstitch_validate(
+    version: u32,
+    category: u32,
+    channels: u32,
+    network: u32,
+    output: u32,
+    parameters: &[u32],
+    states: &[u32],
+    delays: &[u32],
+    nodes: &[u32],
+    answer: &mut [u32],
+) -> u32
+    ensures { λ r. ⌜ crossing r (now (answer .exit)) ≡ verdictCrossing (validation (block (header version category channels network output) (now (parameters .entry)) (now (states .entry)) (now (delays .entry)) (now (nodes .entry)))) (now (answer .entry)) ⌝ }
+{
+    let head = Header {
+        version: version,
+        category: category,
+        channels: channels,
+        network: network,
+        output: output,
+    };
+    let verdict = block::validate(head, parameters, states, delays, nodes);
+    match verdict {
+        Verdict::Valid => 0,
+        Verdict::Refused(refusal) => refuse(refusal, answer),
+    }
 }
