@@ -1,5 +1,5 @@
 -- The ways out of set and reset, each from the tests that lead to it. Assumes nothing.
-use mathlib.Core.Path.{_≡_, refl, sym, ap, _∙_}
+use mathlib.Core.Path.{_≡_, sym, ap, _∙_}
 use mathlib.Core.Bool.{true, false, not}
 use mathlib.Core.List.{List, []}
 use Prim.Native.Nat.{ℕ, _≤_, _<_}
@@ -11,7 +11,6 @@ use Rattle.answers.specs.declared.Refusal.{Refusal}
 use Rattle.answers.specs.declared.Verdict.{Verdict}
 use Rattle.answers.specs.declared.Verdict.the-variants.{Refused}
 use Rattle.answers.specs.Numbers.{Answer, accepted, refused, answerOf}
-use Rattle.answers.specs.Order.{_⨾_, refuse}
 use Rattle.answers.specs.OrderLaws.{then-stop, then-pass, refuse-stop, refuse-pass, refuse-on, refuse-off}
 use Rattle.block.specs.Block.{Block, parameterCount, minimum, maximum, initial}
 use Rattle.block.specs.Validation.{validation}

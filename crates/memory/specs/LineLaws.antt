@@ -2,11 +2,9 @@
 -- nothing.
 use mathlib.Core.Path.{_≡_, refl, sym, ap, _∙_}
 use mathlib.Core.Bool.{Bool, true, false}
-use mathlib.Core.List.{List, [], _∷_, _++_}
-use Prim.Native.Nat.{ℕ, zero, suc, _+_, _-_, _*_, _/_, _%_, _≤_, _<_}
+use mathlib.Core.List.{List}
+use Prim.Native.Nat.{ℕ, _+_, _-_, _*_, _/_, _%_, _≤_, _<_}
 use native.Mathlib.Nat.{mod-lt}
-use native.Mathlib.Numerals.{add-one}
-use native.Mathlib.Decide.{decLt}
 use native.Mathlib.Omega.{arith}
 use lib.ListN.{length, getD, set, drop, length-set, length-drop, List·getD-append}
 use lib.Seq.{getD-set-same, getD-set-other, length-take-le}
@@ -20,7 +18,7 @@ use Rattle.block.specs.Block.{delayLength}
 use Rattle.block.specs.Limits.{mostDelays, mostDelaySamples}
 use Rattle.expand.specs.Graph.{listOf}
 use Rattle.memory.specs.ListLaws.{list-length, list-at, sum-same, filled, filled-next, filled-zeros}
-use Rattle.memory.specs.Lines.{Memories, memories, lineLength, lineBase, cellPlace, readDelay, storeDelay, storeState}
+use Rattle.memory.specs.Lines.{Memories, memories, lineLength, lineBase, readDelay, storeDelay, storeState}
 use Rattle.memory.specs.Fit.{lineLengths, lineBases, Small, Fit, Reach, Stored, stored}
 
 -- ---- the delay table's lengths and bases
@@ -131,6 +129,10 @@ state-kept m i v = simp length-set
 pub fit-state : (lengths : List ℕ) (m : Memories) (i v : ℕ) → Fit lengths (m .area) (m .cursors) → Fit lengths (storeState m i v .area) (storeState m i v .cursors)
 unfolding storeState
 fit-state lengths m i v f = f
+
+-- a remainder by a line's length is a word
+pub rem-word : (n : ℕ) {m : ℕ} → 0 < m → m ≤ mostDelaySamples → n % m < 4294967296
+rem-word n h l = let q = mod-lt n h in omega arith
 
 -- ---- what is within reach at line i, in the words of the tables
 pub record Reached (delays bases area cursors : List ℕ) (i : ℕ) : Type 0 where

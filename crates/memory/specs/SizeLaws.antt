@@ -2,7 +2,7 @@
 use mathlib.Core.Path.{_≡_, refl, sym, _∙_}
 use mathlib.Core.Bool.{Bool, true, false, _||_}
 use mathlib.Core.List.{List}
-use Prim.Native.Nat.{ℕ, zero, suc, _/_, _≤_, _<_, _+_}
+use Prim.Native.Nat.{ℕ, zero, suc, _≤_, _<_, _+_}
 use native.Mathlib.Omega.{arith}
 use lib.ListN.{length, getD}
 use lib.Dec.{eqb}
@@ -10,7 +10,7 @@ use borrow.Author.Tests.{ltb-true, eqb-true, ne-eqb}
 use Rattle.tables.specs.Loops.{sum, sum-next, sum-le, every-true}
 use Rattle.tables.specs.Tests.{&-both, true-false}
 use Rattle.block.specs.Block.{Block, parameterCount, stateCount, delayCount, delayLength}
-use Rattle.block.specs.Limits.{mostDelays, mostDelaySamples}
+use Rattle.block.specs.Limits.{mostDelaySamples}
 use Rattle.block.specs.Valid.{Valid}
 use Rattle.expand.specs.Graph.{graphOf}
 use Rattle.memory.specs.Lines.{Memories, lineBase}

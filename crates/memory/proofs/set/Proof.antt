@@ -1,5 +1,6 @@
 -- `set`: each way out is one answer of the definition, in its order. Assumes nothing.
 use mathlib.Core.Path.{sym, _∙_}
+use native.Mathlib.Omega.{arith}
 use borrow.Author.Tests.{not-true, not-false}
 use Rattle.memory.specs.CallLaws.{told, set-invalid, set-sizes, set-unknown, set-outside, set-done}
 use borrow.Author.Needs.{needs}
@@ -13,7 +14,7 @@ returns-2 : tie.Need-returns-2
 returns-2 c = set-sizes _ _ _ _ (told (c .before .before .before .validate .ensures) (c .before .enum-told .given .1)) (c .if1 .taken)
 
 returns-3 : tie.Need-returns-3
-returns-3 c = set-unknown _ _ _ _ (told (c .before .before .before .before .validate .ensures) (c .before .before .enum-told .given .1)) (c .before .if1 .left) (c .if2 .taken)
+returns-3 c = set-unknown _ _ _ _ (told (c .before .before .before .before .validate .ensures) (c .before .before .enum-told .given .1)) (c .before .if1 .left) (omega (arith, c .if2 .taken))
 
 returns-4 : tie.Need-returns-4
 returns-4 c = set-outside _ _ _ _ (told (c .before .before .before .before .before .before .before .before .validate .ensures) (c .before .before .before .before .before .before .enum-told .given .1)) (c .before .before .before .before .before .if1 .left) (c .before .before .before .before .if2 .left) (sym (c .before .in-range .ensures) ∙ not-true _ (c .if3 .taken))

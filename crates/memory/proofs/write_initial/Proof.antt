@@ -1,7 +1,6 @@
 -- `write_initial`: before turn i the first i words are the initial ones. Assumes nothing.
-use mathlib.Core.Path.{_≡_, ap, _∙_}
+use mathlib.Core.Path.{_≡_}
 use Prim.Native.Nat.{_-_, _≤_}
-use lib.ListN.{length}
 use native.Mathlib.Omega.{arith}
 use Rattle.block.specs.Block.{initial}
 use Rattle.memory.specs.ListLaws.{filled, filled-start, filled-next, filled-last, filled-length}

@@ -1,7 +1,6 @@
 -- `line_bases`: before turn i the base is the sum of the lengths before line i, and the first i words are the bases. Assumes nothing.
-use mathlib.Core.Path.{_≡_, sym, _∙_}
+use mathlib.Core.Path.{_≡_, sym}
 use Prim.Native.Nat.{_-_, _≤_}
-use lib.ListN.{length}
 use native.Mathlib.Omega.{arith}
 use Rattle.tables.specs.Loops.{sum, sum-start, sum-turn}
 use Rattle.block.specs.Block.{delayLength}

@@ -3,11 +3,12 @@ use mathlib.Core.Path.{_≡_, sym}
 use mathlib.Core.Bool.{true}
 use mathlib.Core.List.{List}
 use Prim.Native.Nat.{ℕ, _-_, _≤_}
+use lib.ListN.{getD}
 use native.Mathlib.Omega.{arith}
 use borrow.Author.Tests.{lt-ltb, le-ltb}
 use Rattle.tables.specs.Loops.{every, every-start, every-next, every-stop, every-end}
 use Rattle.block.specs.declared.Header.{Header}
-use Rattle.block.specs.Block.{block}
+use Rattle.block.specs.Block.{block, delayLength}
 use Rattle.memory.specs.Sizes.{cursorBelow, cursorsBelow}
 use borrow.Author.Needs.{needs}
 use Rattle.memory.proofs.sizes.cursors_below.Statement.{statement}
@@ -25,7 +26,7 @@ loop-holds c = (omega arith, λ h p s n. every-start _)
 
 returns : tie.Need-returns Inv-loop μ-loop
 unfolding cursorsBelow cursorBelow
-returns c h p s n = sym (every-stop _ _ (c .before .before .before .before .loop .i) (c .before .before .before .loop-test .taken) (le-ltb _ _ (c .if1 .taken)))
+returns c h p s n = sym (every-stop _ _ (c .before .before .before .before .loop .i) (c .before .before .before .loop-test .taken) (le-ltb (getD (c .before .before .before .before .before .args .cursors .now) (c .before .before .before .before .loop .i) 0) (delayLength (c .before .before .before .before .before .args .delays .now) (c .before .before .before .before .loop .i)) (omega (arith, c .if1 .taken))))
 
 loop-again : tie.Need-loop-again Inv-loop μ-loop
 unfolding cursorBelow
