@@ -1,5 +1,5 @@
 -- The graph run over the samples of a call, and the call. Definitions alone.
-use mathlib.Core.Bool.{Bool, not, cond, _||_}
+use mathlib.Core.Bool.{not, cond, _||_}
 use mathlib.Core.List.{List, _++_}
 use Prim.Native.Nat.{ℕ, zero, suc, _*_}
 use lib.ListN.{length, getD, set, drop, replicate}
@@ -14,8 +14,8 @@ use Rattle.memory.specs.Sizes.{runFits}
 use Rattle.graph_run.specs.Sample.{Given, given, Sampled, sample}
 
 -- "Network words come in a table, one per sample; with the flag clear they are 0."
-unfoldable pub networkWord : Block → List ℕ → ℕ → ℕ
-networkWord b network t = cond (eqb (b .header .network) 0) 0 (getD network t 0)
+unfoldable pub networkWord : ℕ → List ℕ → ℕ → ℕ
+networkWord flag network t = cond (eqb flag 0) 0 (getD network t 0)
 
 -- what a call is given and does not write
 pub record Signals : Type 0 where
@@ -26,9 +26,12 @@ pub record Signals : Type 0 where
 abbrev pub signals : List ℕ → List ℕ → List ℕ → Signals
 signals parameters input network = record { parameters = parameters; input = input; network = network }
 
--- what sample t is given
+-- what sample t is given, by the block's network flag
+abbrev pub givenBy : ℕ → Signals → ℕ → Given
+givenBy flag s t = given (getD (s .input) t 0) (networkWord flag (s .network) t) (s .parameters)
+
 abbrev pub givenAt : Block → Signals → ℕ → Given
-givenAt b s t = given (getD (s .input) t 0) (networkWord b (s .network) t) (s .parameters)
+givenAt b s t = givenBy (b .header .network) s t
 
 -- output words and memories
 pub record Rendered : Type 0 where
@@ -43,11 +46,11 @@ abbrev pub emit : Rendered → ℕ → Sampled → Rendered
 emit r t s = rendered (set (r .output) t (s .output)) (s .memories)
 
 -- the first n samples
-unfoldable pub samplesTo : Block → Signals → Rendered → ℕ → Rendered
-samplesTo b s r zero = r
-samplesTo b s r (suc t) =
-    let before = samplesTo b s r t in
-    emit before t (sample (graphOf b) (givenAt b s t) (before .memories))
+unfoldable pub samplesTo : Graph → ℕ → Signals → Rendered → ℕ → Rendered
+samplesTo g flag s r zero = r
+samplesTo g flag s r (suc t) =
+    let before = samplesTo g flag s r t in
+    emit before t (sample g (givenBy flag s t) (before .memories))
 
 -- ---- the call: every lent table that it writes
 pub record Tables : Type 0 where
@@ -78,7 +81,7 @@ runAfter (accepted u) b s t =
     tables
     (graphOf b .nodes ++ drop (3 * expandedLength b) (t .expansion))
     (replicate (length (t .values)) 0)
-    (samplesTo b s (t .rendered) (length (s .input)))
+    (samplesTo (graphOf b) (b .header .network) s (t .rendered) (length (s .input)))
 runAfter (refused n vs) b s t = t
 
 unfoldable pub runCall : Block → Signals → Tables → Outcome

@@ -1,0 +1,30 @@
+-- `render`: the expansion and the map make the tables that `Begun` describes, whose graph is the block's; zeroing does the rest. Assumes nothing.
+use lib.ListN.{length}
+use Rattle.graph_run.specs.CallLaws.{accepted-run, begun, begun-planned, begun-lent, render-is}
+use native.Mathlib.Omega.{arith}
+use borrow.Author.Needs.{needs}
+use Rattle.graph_run.proofs.render.Statement.{statement}
+use Rattle.graph_run.proofs.render.Tie as tie
+
+play-requires : tie.Need-play-requires
+play-requires c κs = let a = accepted-run _ _ _ (c .before .before .before .before .before .before .before .before .before .before .before .before .before .before .before .before .before .before .before .before .before .before .before .before .before .before .before .before .pre) in let g = (begun _ _ _ _ _ _ _ _ (c .before .before .before .before .before .before .before .before .before .before .before .before .before .before .before .before .before .before .before .before .before .before .before .before .before .before .before .before .pre) (c .before .before .before .before .before .before .before .before .before .before .before .before .before .before .expanded-length .ensures) (c .before .before .before .before .before .before .before .before .before .before .before .before .expand .ensures) (c .before .before .before .before .before .before .before .before .map-nodes .ensures)) in (begun-planned _ _ _ a _ _ _ g, begun-lent _ _ _ a _ _ _ g)
+
+returns : tie.Need-returns
+returns c = let a = accepted-run _ _ _ (c .before .before .before .before .before .before .before .before .before .before .before .before .before .before .before .before .before .before .before .before .before .before .before .before .before .before .before .before .before .before .before .before .before .before .before .before .before .before .before .before .before .before .before .pre) in let g = (begun _ _ _ _ _ _ _ _ (c .before .before .before .before .before .before .before .before .before .before .before .before .before .before .before .before .before .before .before .before .before .before .before .before .before .before .before .before .before .before .before .before .before .before .before .before .before .before .before .before .before .before .before .pre) (c .before .before .before .before .before .before .before .before .before .before .before .before .before .before .before .before .before .before .before .before .before .before .before .before .before .before .before .before .before .expanded-length .ensures) (c .before .before .before .before .before .before .before .before .before .before .before .before .before .before .before .before .before .before .before .before .before .before .before .before .before .before .before .expand .ensures) (c .before .before .before .before .before .before .before .before .before .before .before .before .before .before .before .before .before .before .before .before .before .before .before .map-nodes .ensures)) in render-is _ _ _ a _ _ _ g _ _ (length (c .before .before .before .before .before .before .before .before .before .before .before .before .before .before .play .last .1 .1 .1 .1 .1 .1 .1 .1 .1 .0)) (c .before .before .zero .ensures) (omega (arith, c .before .before .before .before .before .before .before .before .before .before .before .before .before .before .play .kept, c .before .before .before .before .before .before .before .before .before .before .before .before .before .before .before .before .before .before .before .before .before .before .before .map-nodes .kept)) (c .before .before .before .before .before .before .before .before .before .before .before .before .before .before .play .ensures)
+
+pub render-spec : {M : Type 1} → statement M
+render-spec =
+    tie.close
+    (tie.spec
+    (λ c κs. search needs)
+    (λ c κs. search needs)
+    (λ c κs. search needs)
+    play-requires
+    (λ c κs. search needs)
+    (λ c. search needs)
+    (λ c. search needs)
+    (λ c. search needs)
+    (λ c. search needs)
+    (λ c. search needs)
+    (λ c. search needs)
+    returns)

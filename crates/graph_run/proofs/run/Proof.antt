@@ -1,0 +1,39 @@
+-- `run`: a refusal hands the tables back as they came; an accepted call is rendered. Assumes nothing.
+use Rattle.graph_run.specs.CallLaws.{refused-call, accepted-call}
+use Rattle.answers.specs.Numbers.{answerOf}
+use mathlib.Core.Path.{sym, ap, _∙_}
+use borrow.Author.Needs.{needs}
+use Rattle.graph_run.proofs.run.Statement.{statement}
+use Rattle.graph_run.proofs.run.Tie as tie
+
+returns : tie.Need-returns
+returns c = refused-call _ _ _ _ (c .before .before .judge .ensures) (c .enum-told2 .given .1)
+
+render-requires : tie.Need-render-requires
+render-requires c κs = sym (c .before .before .before .before .before .before .before .before .judge .ensures) ∙ ap answerOf (c .before .before .before .before .before .before .enum-told .given .1)
+
+returns-2 : tie.Need-returns-2
+returns-2 c = accepted-call _ _ _ _ _ (c .before .before .before .before .before .before .before .before .before .before .before .before .before .before .before .before .before .before .before .before .before .judge .ensures) (c .before .before .before .before .before .before .before .before .before .before .before .before .before .before .before .before .before .before .before .enum-told .given .1) (c .before .before .before .before .before .before .before .before .before .before .before .before .render .ensures)
+
+pub run-spec : {M : Type 1} → statement M
+run-spec =
+    tie.close
+    (tie.spec
+    (λ c κs. search needs)
+    (λ c. search needs)
+    (λ c. search needs)
+    (λ c. search needs)
+    (λ c. search needs)
+    (λ c. search needs)
+    (λ c. search needs)
+    (λ c. search needs)
+    (λ c. search needs)
+    returns
+    render-requires
+    (λ c. search needs)
+    (λ c. search needs)
+    (λ c. search needs)
+    (λ c. search needs)
+    (λ c. search needs)
+    (λ c. search needs)
+    returns-2)
