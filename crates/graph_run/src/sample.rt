@@ -136,11 +136,11 @@ fn update_delay(
     requires { ⌜ Lines (now delays) (now bases) (now area) (now cursors) × Updates (now stores) (length (now values)) (length (now cursors)) × (i < length (now cursors)) ⌝ }
     ensures { λ _. ⌜ ((states : List ℕ) → memories states (now (area .exit)) (now (cursors .exit)) ≡ updateDelay (now (stores .entry)) (lineLengths (now (delays .entry))) (now (values .entry)) (memories states (now (area .entry)) (now (cursors .entry))) i) ⌝ }
 {
-    let update = stores[i] as usize;
-    if update == 0 {
+    let store = stores[i] as usize;
+    if store == 0 {
         return;
     }
-    lines::store_delay(delays, bases, area, cursors, i, values[update - 1]);
+    lines::store_delay(delays, bases, area, cursors, i, values[store - 1]);
 }
 
 fn update_delays(

@@ -6,8 +6,8 @@ use borrow.Author.Needs.{needs}
 use Rattle.graph_run.proofs.sample.update_delay.Statement.{statement}
 use Rattle.graph_run.proofs.sample.update_delay.Tie as tie
 
-cast-update : tie.Need-cast-update
-cast-update c = omega (arith, c .before .before .before .before .before .shared-slice-known .given (c .before .before .before .before .before .before .args .i))
+cast-store : tie.Need-cast-store
+cast-store c = omega (arith, c .before .before .before .before .before .shared-slice-known .given (c .before .before .before .before .before .before .args .i))
 
 returns : tie.Need-returns
 unfolding updateDelay
@@ -32,7 +32,7 @@ update-delay-spec =
     (tie.spec
     (λ c. search needs)
     (λ c. search needs)
-    cast-update
+    cast-store
     returns
     (λ c. search needs)
     mul-store-delay
