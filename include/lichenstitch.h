@@ -43,6 +43,14 @@ uint32_t lichenstitch_validate(uint32_t version, uint32_t category, uint32_t cha
                                size_t delays_length, const uint32_t *nodes, size_t nodes_length, uint32_t *answer,
                                size_t answer_length);
 
+// Writes the expansion, three words a node, and leaves the words past it. Accepted: answer[0] is the expanded length,
+// answer[1] the output's place in it. Refused: as above, 13 where the expansion table is too short, and no table changes.
+uint32_t lichenstitch_expand(uint32_t version, uint32_t category, uint32_t channels, uint32_t network,
+                             uint32_t output, const uint32_t *parameters, size_t parameters_length,
+                             const uint32_t *states, size_t states_length, const uint32_t *delays,
+                             size_t delays_length, const uint32_t *nodes, size_t nodes_length, uint32_t *expansion,
+                             size_t expansion_length, uint32_t *answer, size_t answer_length);
+
 #ifdef __cplusplus
 }
 #endif

@@ -91,6 +91,7 @@ static uint32_t call(uint32_t function, uint32_t slices) {
     case 9: EACH(lichenstitch_span_is_valid(s[0][i], s[1][i], s[2][i]));
     case 10: EACH(lichenstitch_in_range(s[0][i], s[1][i], s[2][i]));
     case 11: return lichenstitch_validate(HEADER, TABLE(0), TABLE(1), TABLE(2), TABLE(3), TABLE(4));
+    case 12: return lichenstitch_expand(HEADER, TABLE(0), TABLE(1), TABLE(2), TABLE(3), TABLE(4), TABLE(5));
     default: _exit(2);
     }
 }

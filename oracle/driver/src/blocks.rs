@@ -301,7 +301,7 @@ fn named(ours: &mut Ours, seed: u64, questions: &[Question]) -> Result<(), Strin
 }
 
 /// Validation: `count` random blocks, half of them faulty.
-pub fn compare_validation(ours: &mut Ours, seed: u64, count: u64) -> Result<(), String> {
+fn compare_validation(ours: &mut Ours, seed: u64, count: u64) -> Result<(), String> {
     named(ours, seed, &[Question::Validate])?;
     let make = |random: &mut Random| Case::new(Question::Validate, random_block(random, 2));
     let counts = compare_random(ours, seed, count, make)?;
@@ -313,7 +313,7 @@ pub fn compare_validation(ours: &mut Ours, seed: u64, count: u64) -> Result<(), 
 }
 
 /// Expansion: `count` random blocks, one in ten of them faulty, some with a table that is too short, and the largest.
-pub fn compare_expansion(ours: &mut Ours, seed: u64, count: u64) -> Result<(), String> {
+fn compare_expansion(ours: &mut Ours, seed: u64, count: u64) -> Result<(), String> {
     named(ours, seed, &[Question::Expand { spare: 0 }, Question::Expand { spare: 7 }])?;
     let make = |random: &mut Random| {
         let spare = match random.below(10) {
@@ -338,4 +338,9 @@ pub fn compare_expansion(ours: &mut Ours, seed: u64, count: u64) -> Result<(), S
     let counts = compare_random(ours, seed, count / 10_000 + 4, make)?;
     println!("blocks: {} of 65,536 expanded nodes word for word", counts.0[0]);
     Ok(())
+}
+
+pub fn compare(ours: &mut Ours, seed: u64, count: u64) -> Result<(), String> {
+    compare_validation(ours, seed, count)?;
+    compare_expansion(ours, seed, count * 3 / 10)
 }

@@ -1,6 +1,6 @@
 //! Compares Lichenstitch with the Rust. Run by ../compare and ../vectors.
 //!
-//! driver SUBJECT OURS SEED COUNT   SUBJECT: words, blocks, expansions. OURS: the program made of ours/ours.c and the static library
+//! driver SUBJECT OURS SEED COUNT   SUBJECT: words, blocks. OURS: the program made of ours/ours.c and the static library
 //! driver bench OURS                times both sides
 //! driver vectors words             prints vectors with the Rust's answers
 mod bench;
@@ -19,19 +19,18 @@ fn main() {
     let arguments: Vec<String> = std::env::args().skip(1).collect();
     let arguments: Vec<&str> = arguments.iter().map(String::as_str).collect();
     match arguments[..] {
-        [subject @ ("words" | "blocks" | "expansions"), program, seed, count] => {
+        [subject @ ("words" | "blocks"), program, seed, count] => {
             let (seed, count) = (number(seed), number(count));
             let mut ours = Ours::start(program);
             let outcome = match subject {
                 "words" => words::compare(&mut ours, seed, count),
-                "blocks" => blocks::compare_validation(&mut ours, seed, count),
-                _ => blocks::compare_expansion(&mut ours, seed, count),
+                _ => blocks::compare(&mut ours, seed, count),
             };
             report(subject, seed, outcome);
         }
         ["bench", program] => bench::run(&mut Ours::start(program)),
         ["vectors", "words"] => print!("{}", vectors::words()),
-        _ => panic!("usage: driver words|blocks|expansions OURS SEED COUNT, driver bench OURS, driver vectors words"),
+        _ => panic!("usage: driver words|blocks OURS SEED COUNT, driver bench OURS, driver vectors words"),
     }
 }
 
