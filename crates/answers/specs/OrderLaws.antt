@@ -7,7 +7,10 @@ use Prim.Native.Nat.{ℕ, zero, suc, _+_, _≤_, _<_}
 use native.Mathlib.Nat.{eq-or-lt-of-le, le-of-suc-le-suc, not-suc-le-zero}
 use native.Mathlib.Numerals.{add-one}
 use native.Mathlib.Omega.{arith}
-use Rattle.answers.specs.Numbers.{Answer, accepted, refused}
+use Rattle.answers.specs.declared.Refusal.{Refusal}
+use Rattle.answers.specs.declared.Verdict.{Verdict}
+use Rattle.answers.specs.declared.Verdict.the-variants.{Valid, Refused}
+use Rattle.answers.specs.Numbers.{Answer, accepted, refused, answerOf}
 use Rattle.answers.specs.Order.{_⨾_, refuse, refuseAt, inOrder}
 
 -- ---- an accepted whole has accepted parts
@@ -92,3 +95,15 @@ in-order-stop answer (suc n) i m vs h e a = go (eq-or-lt-of-le (le-of-suc-le-suc
 
 pub in-order-end : (answer : ℕ → Answer Unit) (i n : ℕ) → i ≤ n → n ≤ i → inOrder answer i ≡ accepted tt → inOrder answer n ≡ accepted tt
 in-order-end answer i n h l e = let q : i ≡ n = omega arith in rw q at e
+
+-- ---- a verdict v that answers a: a refusal is handed on, and behind a valid one the rest answers
+pub hand-on : (v : Verdict) {a : Answer Unit} (b : Answer Unit) {r : Refusal} → answerOf v ≡ a → v ≡ Refused r → answerOf v ≡ (a ⨾ b)
+hand-on v b e f = ap answerOf f ∙ sym (then-stop b (sym e ∙ ap answerOf f))
+
+pub go-on : (v : Verdict) {a x : Answer Unit} (b : Answer Unit) → answerOf v ≡ a → v ≡ Valid → x ≡ b → x ≡ (a ⨾ b)
+go-on v b e f g = g ∙ sym (then-pass b (sym e ∙ ap answerOf f))
+
+-- a record's verdict ends the loop
+pub in-order-hand-on : (answer : ℕ → Answer Unit) (n i : ℕ) (v : Verdict) {r : Refusal} → i < n → inOrder answer i ≡ accepted tt → answerOf v ≡ answer i
+    → v ≡ Refused r → answerOf v ≡ inOrder answer n
+in-order-hand-on answer n i v h e f g = ap answerOf g ∙ sym (in-order-stop answer n i _ _ h e (sym f ∙ ap answerOf g))

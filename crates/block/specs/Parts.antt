@@ -1,5 +1,5 @@
--- How the code cuts validation: the counts as three numbers, the answers from 7 on, a verdict that is handed on, and the turns of the scanning loops.
-use mathlib.Core.Path.{_≡_, sym, ap, _∙_}
+-- How the code cuts validation: the counts as three numbers, what 6 leaves, and the turns of the scanning loops.
+use mathlib.Core.Path.{_≡_, ap, _∙_}
 use mathlib.Core.Bool.{Bool, true, false, _||_}
 use mathlib.Core.List.{List, [], _∷_}
 use Prim.Native.Nat.{ℕ, suc, _+_, _≤_, _<_}
@@ -8,30 +8,17 @@ use lib.Dec.{ltb, eqb}
 use borrow.Author.Tests.{ltb-false}
 use Rattle.tables.specs.Tests.{neither}
 use Rattle.tables.specs.Loops.{sum, sum-turn}
-use Rattle.answers.specs.declared.Refusal.{Refusal}
-use Rattle.answers.specs.declared.Verdict.{Verdict}
-use Rattle.answers.specs.declared.Verdict.the-variants.{Valid, Refused}
-use Rattle.answers.specs.Numbers.{Answer, accepted, refused, answerOf}
-use Rattle.answers.specs.Order.{_⨾_, refuse, inOrder}
-use Rattle.answers.specs.OrderLaws.{then-stop, then-pass, in-order-stop, refuse-at-on, refuse-at-off}
+use Rattle.answers.specs.Numbers.{Answer, accepted, refused}
+use Rattle.answers.specs.OrderLaws.{refuse-at-on, refuse-at-off}
 use Rattle.block.specs.declared.Kind.{Kind}
 use Rattle.block.specs.Block.{Block, parameterCount, stateCount, delayCount, nodeCount, update, delayLength, code, first, second}
 use Rattle.block.specs.Kinds.{kindOf, tanhSteps}
 use Rattle.block.specs.KindLaws.{count-offset}
 use Rattle.block.specs.Limits.{mostNodes, mostParameters, mostStates, mostDelays, mostDelaySamples}
-use Rattle.block.specs.Validation.{Counts, countsOf, expandedLength, tooLarge, parameterAnswer, outputMissing, wordsAnswer, nodeAnswer, stateAnswer, runningTotal, delayAnswer}
+use Rattle.block.specs.Validation.{Counts, expandedLength, tooLarge, wordsAnswer, nodeAnswer, runningTotal, delayAnswer}
 
 abbrev pub counts : ℕ → ℕ → ℕ → Counts
 counts parameters states delays = record { parameters = parameters; states = states; delays = delays }
-
--- 7 to 12, as `validation` has them
-unfoldable pub recordsAnswer : Block → Answer Unit
-recordsAnswer b =
-    inOrder (parameterAnswer (b .parameters)) (parameterCount b)
-    ⨾ refuse 8 (outputMissing b)
-    ⨾ inOrder (nodeAnswer (b .nodes) (countsOf b)) (nodeCount b)
-    ⨾ inOrder (stateAnswer (b .states) (nodeCount b)) (stateCount b)
-    ⨾ inOrder (delayAnswer (b .delays) (nodeCount b)) (delayCount b)
 
 -- where 6 is not given, every count is within its limit
 pub record Sizes (b : Block) : Type 0 where
@@ -53,23 +40,11 @@ sizes b e =
       delays = ltb-false _ _ (s1 .1);
     }
 
--- ---- a verdict v that answers a: a refusal is handed on, and behind a valid one the rest answers
-pub hand-on : (v : Verdict) {a : Answer Unit} (b : Answer Unit) {r : Refusal} → answerOf v ≡ a → v ≡ Refused r → answerOf v ≡ (a ⨾ b)
-hand-on v b e f = ap answerOf f ∙ sym (then-stop b (sym e ∙ ap answerOf f))
-
-pub go-on : (v : Verdict) {a x : Answer Unit} (b : Answer Unit) → answerOf v ≡ a → v ≡ Valid → x ≡ b → x ≡ (a ⨾ b)
-go-on v b e f g = g ∙ sym (then-pass b (sym e ∙ ap answerOf f))
-
 -- ---- the node i, judged by its kind k and its words
 pub node-is : (nodes : List ℕ) (n : Counts) (i : ℕ) {k : Kind} {a : Answer Unit} → k ≡ kindOf (code nodes i)
     → a ≡ wordsAnswer k n i (first nodes i) (second nodes i) → a ≡ nodeAnswer nodes n i
 unfolding nodeAnswer
 node-is nodes n i e f = rw e at f
-
--- a record's verdict ends the loop
-pub in-order-hand-on : (answer : ℕ → Answer Unit) (n i : ℕ) (v : Verdict) {r : Refusal} → i < n → inOrder answer i ≡ accepted tt → answerOf v ≡ answer i
-    → v ≡ Refused r → answerOf v ≡ inOrder answer n
-in-order-hand-on answer n i v h e f g = ap answerOf g ∙ sym (in-order-stop answer n i _ _ h e (sym f ∙ ap answerOf g))
 
 -- ---- the delay i, behind delays of t samples together
 abbrev pub delayTest : List ℕ → ℕ → ℕ → ℕ → Bool

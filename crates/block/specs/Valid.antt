@@ -19,7 +19,7 @@ use Rattle.block.specs.Block.{Block, parameterCount, stateCount, delayCo
 use Rattle.block.specs.Kinds.{kindOf, operandsOf, tanhSteps}
 use Rattle.block.specs.KindLaws.{count-offset}
 use Rattle.block.specs.Limits.{firstVersion, lastVersion, networkVersion, lastCategory, mono, codeNeedsTwo, categoryNeedsTwo, mostNodes, mostParameters, mostStates, mostDelays, mostDelaySamples}
-use Rattle.block.specs.Validation.{Counts, countsOf, ragged, malformedWords, malformedNode, malformedHeader, malformed, unknownVersion, networkNotAllowed, readsNetwork, networkFlagClear, nodeNeedsTwo, needsVersionTwo, expandedLength, tooLarge, parameterAnswer, operandNotBelow, badContent, wordsAnswer, nodeAnswer, stateAnswer, runningTotal, delayAnswer, validation}
+use Rattle.block.specs.Validation.{Counts, countsOf, ragged, malformedWords, malformedNode, malformedHeader, malformed, unknownVersion, networkNotAllowed, readsNetwork, networkFlagClear, nodeNeedsTwo, needsVersionTwo, expandedLength, tooLarge, parameterAnswer, operandNotBelow, badContent, wordsAnswer, nodeAnswer, stateAnswer, runningTotal, delayAnswer, recordsAnswer, validation}
 
 -- a node i of a kind with the words x and y: operands stand before it, an index is below its table's count, a constant is finite, unused words are 0
 abbrev pub SoundWords : Kind → Counts → ℕ → ℕ → ℕ → Type 0
@@ -148,7 +148,7 @@ delay-facts delays nodes i e =
 
 -- AN ACCEPTED BLOCK IS VALID
 pub valid : (b : Block) → validation b ≡ accepted tt → Valid b
-unfolding validation malformed malformedHeader unknownVersion tooLarge
+unfolding validation recordsAnswer malformed malformedHeader unknownVersion tooLarge
 valid b e =
     let a1 = then-accepted _ _ e in
     let a2 = then-accepted _ _ (a1 .1) in

@@ -14,7 +14,7 @@ use Rattle.block.specs.declared.Kind.{Kind}
 use Rattle.block.specs.declared.Kind.the-variants.{Source, Constant, Parameter, State, Delay, Binary, Divide, Unary, Recip, Tanh, Sigmoid, Unknown}
 use Rattle.block.specs.Block.{Block, nodeCount, delayLength, code, first, second}
 use Rattle.block.specs.Kinds.{kindOf, operandsOf}
-use Rattle.block.specs.Validation.{Counts, countsOf, malformedWords, malformedNode, malformedHeader, malformed, unknownVersion, networkNotAllowed, networkFlagClear, needsVersionTwo, tooLarge, parameterAnswer, operandNotBelow, badContent, wordsAnswer, nodeAnswer, stateAnswer, delayAnswer, validation}
+use Rattle.block.specs.Validation.{Counts, countsOf, malformedWords, malformedNode, malformedHeader, malformed, unknownVersion, networkNotAllowed, networkFlagClear, needsVersionTwo, tooLarge, parameterAnswer, operandNotBelow, badContent, wordsAnswer, nodeAnswer, stateAnswer, delayAnswer, recordsAnswer, validation}
 use Rattle.block.specs.Valid.{SoundWords, Sound, Valid}
 
 -- ---- from facts to tests that are false
@@ -55,7 +55,7 @@ node-pass n nodes i s =
 
 -- A VALID BLOCK IS ACCEPTED
 pub exact : (b : Block) → Valid b → validation b ≡ accepted tt
-unfolding validation malformed malformedHeader unknownVersion networkNotAllowed networkFlagClear needsVersionTwo tooLarge parameterAnswer stateAnswer delayAnswer
+unfolding validation recordsAnswer malformed malformedHeader unknownVersion networkNotAllowed networkFlagClear needsVersionTwo tooLarge parameterAnswer stateAnswer delayAnswer
 exact b v =
     let header = or-none _ _ (or-none _ _ (le-ltb _ _ (v .category)) (le-ltb _ _ (v .channels))) (le-ltb _ _ (v .network)) in
     let tables =

@@ -140,6 +140,15 @@ unfoldable pub delayAnswer : List ℕ → ℕ → ℕ → Answer Unit
 delayAnswer delays nodes i =
     refuseAt 12 i (eqb (delayLength delays i) 0 || ltb mostDelaySamples (runningTotal delays i) || ltb nodes (update delays i))
 
+-- ---- 7 to 12: the records, table by table
+unfoldable pub recordsAnswer : Block → Answer Unit
+recordsAnswer b =
+    inOrder (parameterAnswer (b .parameters)) (parameterCount b)
+    ⨾ refuse 8 (outputMissing b)
+    ⨾ inOrder (nodeAnswer (b .nodes) (countsOf b)) (nodeCount b)
+    ⨾ inOrder (stateAnswer (b .states) (nodeCount b)) (stateCount b)
+    ⨾ inOrder (delayAnswer (b .delays) (nodeCount b)) (delayCount b)
+
 -- ---- THE ANSWER of validation: "The lowest number wins"
 unfoldable pub validation : Block → Answer Unit
 validation b =
@@ -149,8 +158,4 @@ validation b =
     ⨾ refuse 4 (networkFlagClear b)
     ⨾ refuse 5 (needsVersionTwo b)
     ⨾ refuse 6 (tooLarge b)
-    ⨾ inOrder (parameterAnswer (b .parameters)) (parameterCount b)
-    ⨾ refuse 8 (outputMissing b)
-    ⨾ inOrder (nodeAnswer (b .nodes) (countsOf b)) (nodeCount b)
-    ⨾ inOrder (stateAnswer (b .states) (nodeCount b)) (stateCount b)
-    ⨾ inOrder (delayAnswer (b .delays) (nodeCount b)) (delayCount b)
+    ⨾ recordsAnswer b

@@ -11,8 +11,7 @@ ghost use mathlib.Core.Path.{_≡_};
 ghost use mathlib.Core.Bool.{false};
 ghost use Rattle.answers.specs.Numbers.{answerOf};
 ghost use Rattle.block.specs.Block.{block};
-ghost use Rattle.block.specs.Validation.{tooLarge, validation};
-ghost use Rattle.block.specs.Parts.{recordsAnswer};
+ghost use Rattle.block.specs.Validation.{tooLarge, recordsAnswer, validation};
 
 // What a block says besides its four tables.
 pub struct Header {

@@ -15,13 +15,12 @@ use Rattle.answers.specs.declared.Verdict.the-variants.{Valid, Refused}
 use Rattle.answers.specs.declared.Refusal.{Refusal}
 use Rattle.answers.specs.Numbers.{Answer, accepted, refused, refusal, answerOf}
 use Rattle.answers.specs.Order.{refuse}
-use Rattle.answers.specs.OrderLaws.{then-accepted, refuse-accepted, then-pass, refuse-stop, refuse-pass, refuse-on, refuse-off}
+use Rattle.answers.specs.OrderLaws.{then-accepted, refuse-accepted, then-pass, refuse-stop, refuse-pass, refuse-on, refuse-off, hand-on, go-on}
 use Rattle.block.specs.Block.{Block, nodeCount}
 use Rattle.block.specs.Kinds.{tanhSteps}
 use Rattle.block.specs.Validation.{expandedLength, validation}
 use Rattle.block.specs.Valid as Valids
 use Rattle.block.specs.Valid.{valid}
-use Rattle.block.specs.Parts.{hand-on, go-on}
 use Rattle.expand.specs.Nodes.{wordsOf}
 use Rattle.expand.specs.declared.Expanded.{Expanded}
 use Rattle.expand.specs.Expansion as E

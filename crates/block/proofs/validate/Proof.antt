@@ -3,7 +3,6 @@ use borrow.Author.Needs.{needs}
 use mathlib.Core.Path.{sym, _∙_}
 use Rattle.answers.specs.OrderLaws.{refuse-stop, refuse-pass}
 use Rattle.block.specs.Validation.{networkFlagClear, needsVersionTwo, tooLarge, validation}
-use Rattle.block.specs.Parts.{recordsAnswer}
 use Rattle.block.proofs.validate.Statement.{statement}
 use Rattle.block.proofs.validate.Tie as tie
 
@@ -36,7 +35,7 @@ unfolding tooLarge
 validate-records-requires c κs = sym (c .before .too-large .ensures) ∙ c .if6 .left
 
 returns-7 : tie.Need-returns-7
-unfolding validation networkFlagClear needsVersionTwo tooLarge recordsAnswer
+unfolding validation networkFlagClear needsVersionTwo tooLarge
 returns-7 c = c .validate-records .ensures ∙ sym (refuse-pass 1 _ (sym (c .before .before .before .before .before .before .before .before .before .before .before .before .malformed .ensures) ∙ c .before .before .before .before .before .before .before .before .before .before .before .if1 .left) ∙ (refuse-pass 2 _ (sym (c .before .before .before .before .before .before .before .before .before .before .unknown-version .ensures) ∙ c .before .before .before .before .before .before .before .before .before .if2 .left) ∙ (refuse-pass 3 _ (sym (c .before .before .before .before .before .before .before .before .network-not-allowed .ensures) ∙ c .before .before .before .before .before .before .before .if3 .left) ∙ (refuse-pass 4 _ (sym (c .before .before .before .before .before .before .network-flag-clear .ensures) ∙ c .before .before .before .before .before .if4 .left) ∙ (refuse-pass 5 _ (sym (c .before .before .before .before .needs-version-two .ensures) ∙ c .before .before .before .if5 .left) ∙ (refuse-pass 6 _ (sym (c .before .before .too-large .ensures) ∙ c .before .if6 .left)))))))
 
 pub validate-spec : {M : Type 1} → statement M

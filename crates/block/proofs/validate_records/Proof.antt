@@ -3,8 +3,9 @@ use borrow.Author.Needs.{needs}
 use mathlib.Core.Path.{sym, ap, _∙_}
 use borrow.Author.Tests.{le-leb, lt-leb}
 use Rattle.answers.specs.Numbers.{answerOf}
-use Rattle.answers.specs.OrderLaws.{then-pass, refuse-stop, refuse-pass}
-use Rattle.block.specs.Parts.{recordsAnswer, sizes, hand-on, go-on}
+use Rattle.answers.specs.OrderLaws.{then-pass, refuse-stop, refuse-pass, hand-on, go-on}
+use Rattle.block.specs.Validation.{recordsAnswer}
+use Rattle.block.specs.Parts.{sizes}
 use Rattle.block.proofs.validate_records.Statement.{statement}
 use Rattle.block.proofs.validate_records.Tie as tie
 

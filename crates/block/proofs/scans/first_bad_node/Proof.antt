@@ -5,9 +5,9 @@ use native.Mathlib.Omega.{arith}
 use Prim.Native.Nat.{_-_, _≤_}
 use Rattle.answers.specs.Numbers.{accepted, answerOf}
 use Rattle.answers.specs.Order.{inOrder}
-use Rattle.answers.specs.OrderLaws.{in-order-start, in-order-next, in-order-end}
+use Rattle.answers.specs.OrderLaws.{in-order-start, in-order-next, in-order-end, in-order-hand-on}
 use Rattle.block.specs.Validation.{nodeAnswer}
-use Rattle.block.specs.Parts.{counts, node-is, in-order-hand-on}
+use Rattle.block.specs.Parts.{counts, node-is}
 use Rattle.block.proofs.scans.first_bad_node.Statement.{statement}
 use Rattle.block.proofs.scans.first_bad_node.Tie as tie
 
