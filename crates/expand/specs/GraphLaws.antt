@@ -1,13 +1,20 @@
--- Laws of `listOf`: how long it is, and what stands at each index.
+-- Laws of `listOf`, and what the graph of a valid block keeps: `good-graph`.
 use mathlib.Core.Path.{_≡_, refl, _∙_}
 use mathlib.Core.Logic.{_⊎_, inl, inr}
 use mathlib.Core.List.{[], _∷_, _++_}
-use Prim.Native.Nat.{ℕ, zero, suc, _<_}
+use Prim.Native.Nat.{ℕ, zero, suc, _*_, _≤_, _<_}
 use native.Mathlib.Nat.{not-suc-le-zero, eq-or-lt-of-le, le-of-suc-le-suc}
+use native.Mathlib.Decide.{decLt}
 use native.Mathlib.Omega.{arith}
-use lib.ListN.{length, getD, length-append, List·getD-append}
+use lib.ListN.{length, getD, length-append, List·getD-append, List·getD-eq-default}
 use lib.Seq.{getD-at}
-use Rattle.expand.specs.Graph.{listOf}
+use Rattle.block.specs.Block.{Block, stateCount, delayCount, code, first, second}
+use Rattle.block.specs.Limits.{mostNodes}
+use Rattle.block.specs.Validation.{Counts, countsOf, expandedLength}
+use Rattle.block.specs.Valid.{Valid}
+use Rattle.expand.specs.Graph.{listOf, Graph, mappedUpdate, graphOf}
+use Rattle.expand.specs.Lengths.{expansion-words-length}
+use Rattle.expand.specs.Good.{GoodNode, good-node, output-mapped, state-update-mapped, delay-update-mapped}
 
 pub list-of-length : (f : ℕ → ℕ) (n : ℕ) → length (listOf f n) ≡ n
 unfolding listOf
@@ -22,3 +29,33 @@ list-of-at f (suc n) i h = go (eq-or-lt-of-le (le-of-suc-le-suc h)) (list-of-at 
     go : (i ≡ n) ⊎ (i < n) → (i < n → getD (listOf f n) i 0 ≡ f i) → getD (listOf f n ++ (f n ∷ [])) i 0 ≡ f i
     go (inl p) ih = rw p (getD-at (listOf f n) (f n) [] 0 n (list-of-length f n))
     go (inr q) ih = List·getD-append (listOf f n) (f n ∷ []) 0 i (rw (list-of-length f n) q) ∙ ih q
+
+-- past the end 0 is read, so what holds of 0 and of every f i holds wherever it is read
+list-of-le : (f : ℕ → ℕ) (m n i : ℕ) → ((j : ℕ) → j < n → f j ≤ m) → getD (listOf f n) i 0 ≤ m
+list-of-le f m n i h = go (decLt i n)
+  where
+    go : Dec (i < n) → getD (listOf f n) i 0 ≤ m
+    go (yes q) = rw (list-of-at f n i q) (h i q)
+    go (no q) = rw (List·getD-eq-default (listOf f n) 0 {n = i} (omega (arith, list-of-length f n))) (omega arith)
+
+-- ---- the graph of a valid block
+pub record GoodGraph (n : Counts) (g : Graph) : Type 0 where
+  pub long : length (g .nodes) ≡ 3 * g .count
+  pub nodes : (k : ℕ) → k < g .count → GoodNode n k (code (g .nodes) k) (first (g .nodes) k) (second (g .nodes) k)
+  pub output : g .output < g .count
+  -- an update is 0, or a node's number and one
+  pub stateUpdates : (i : ℕ) → getD (g .stateUpdates) i 0 ≤ g .count
+  pub delayUpdates : (i : ℕ) → getD (g .delayUpdates) i 0 ≤ g .count
+  pub limit : g .count ≤ mostNodes
+
+pub good-graph : (b : Block) → Valid b → GoodGraph (countsOf b) (graphOf b)
+unfolding graphOf
+good-graph b valid =
+    record {
+      long = expansion-words-length b;
+      nodes = good-node b valid;
+      output = output-mapped b valid;
+      stateUpdates = λ i. list-of-le (mappedUpdate b (b .states)) (expandedLength b) (stateCount b) i (state-update-mapped b valid);
+      delayUpdates = λ i. list-of-le (mappedUpdate b (b .delays)) (expandedLength b) (delayCount b) i (delay-update-mapped b valid);
+      limit = valid .fits;
+    }

@@ -11,11 +11,11 @@ use Rattle.tables.specs.Loops.{sum, sum-le}
 use Rattle.block.specs.declared.Kind.{Kind}
 use Rattle.block.specs.declared.Kind.the-variants.{Source, Constant, Parameter, State, Delay, Binary, Divide, Unary, Recip, Tanh, Sigmoid, Unknown}
 use Rattle.block.specs.Block.{Block, nodeCount, code, first, second}
-use Rattle.block.specs.Kinds.{kindOf, lengthOf, recipLength, tanhLength, nodeLength, offset}
+use Rattle.block.specs.Kinds.{kindOf, lengthOf, recipLength, tanhLength, nodeLength, offset, tanhSteps}
 use Rattle.block.specs.Validation.{expandedLength}
 use Rattle.expand.specs.Nodes.{Node, wordsOf}
 use Rattle.expand.specs.Macros.{newton, recip, tanh, sigmoid, divide}
-use Rattle.expand.specs.Words.{words-length}
+use Rattle.expand.specs.Words.{noNode, words-length, words-at}
 use Rattle.expand.specs.Expansion.{expandAs, mapNode, expandNode, expandTo, expansion, mapUpdate}
 
 -- ---- each macro is as long as its length
@@ -134,3 +134,13 @@ expand-at steps nodes (suc n) i j z h q = go (eq-or-lt-of-le (le-of-suc-le-suc h
     go (inr p) ih =
         List·getD-append (expandTo steps nodes n) (expandNode steps nodes n) z (offset steps nodes i + j)
         (omega (arith, to-length steps nodes n, offset-le steps nodes (suc i) n p, offset-next steps nodes i)) ∙ ih p q
+
+-- the same in the words of the table
+pub words-expand-at : (b : Block) (i j : ℕ) → i < nodeCount b → j < nodeLength tanhSteps (b .nodes) i
+    → (code (wordsOf (expansion b)) (offset tanhSteps (b .nodes) i + j) ≡ getD (expandNode tanhSteps (b .nodes) i) j noNode .code)
+    × (first (wordsOf (expansion b)) (offset tanhSteps (b .nodes) i + j) ≡ getD (expandNode tanhSteps (b .nodes) i) j noNode .first)
+    × (second (wordsOf (expansion b)) (offset tanhSteps (b .nodes) i + j) ≡ getD (expandNode tanhSteps (b .nodes) i) j noNode .second)
+words-expand-at b i j h q =
+    let w = words-at (expansion b) (offset tanhSteps (b .nodes) i + j) in
+    let e = expand-at tanhSteps (b .nodes) (nodeCount b) i j noNode h q in
+    (w .0 ∙ ap (λ (n : Node). n .code) e, w .1 ∙ ap (λ (n : Node). n .first) e, w .2 ∙ ap (λ (n : Node). n .second) e)

@@ -7,6 +7,7 @@ use answers::Refusal;
 use answers::Verdict;
 use block::Header;
 use block::kinds;
+use block::limits;
 ghost use mathlib.Core.Path.{_≡_};
 ghost use Rattle.block.specs.Block.{block};
 ghost use Rattle.expand.specs.Expansion.{answerOf, outcome, expandCall};
@@ -63,7 +64,7 @@ pub fn map_nodes(nodes: &[u32], table: &mut [u32]) -> bool
     if table.len() < nodes.len() / 3 {
         return false;
     }
-    if 65_536 < kinds::expanded_length(nodes) {
+    if limits::MOST_NODES < kinds::expanded_length(nodes) {
         return false;
     }
     map::write_map(nodes, table, kinds::TANH_STEPS);
@@ -76,7 +77,7 @@ pub fn mapped_node(nodes: &[u32], node: u32) -> u32
 {
     let index = node as usize;
     if nodes.len() / 3 <= index {
-        return 65_536;
+        return limits::MOST_NODES as u32;
     }
     let end = 3 * (index + 1);
     (kinds::expanded_length(&nodes[..end]) - 1) as u32

@@ -24,6 +24,7 @@ pub mapped-node-spec : {M : Type 1} → statement M
 mapped-node-spec =
     tie.close
     (tie.spec
+    (λ c. search needs)
     returns
     (λ c. search needs)
     (λ c. search needs)
