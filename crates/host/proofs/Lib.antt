@@ -1,0 +1,3 @@
+-- What the walks of host share.
+pub mod Lent
+pub mod Words
