@@ -1,16 +1,12 @@
 -- The expanded block that compile, check and both runs work on: the expansion's words with the output and every update mapped. Definitions alone.
-use mathlib.Core.List.{List, [], _∷_, _++_}
-use Prim.Native.Nat.{ℕ, zero, suc}
+use mathlib.Core.List.{List}
+use Prim.Native.Nat.{ℕ}
+use Rattle.tables.specs.Lists.{listOf}
 use Rattle.block.specs.Block.{Block, stateCount, delayCount, update, delayLength}
 use Rattle.block.specs.Kinds.{tanhSteps}
 use Rattle.block.specs.Validation.{expandedLength}
 use Rattle.expand.specs.Nodes.{wordsOf}
 use Rattle.expand.specs.Expansion.{expansion, mappedOutput, mapUpdate}
-
--- f of each index below n, in order
-unfoldable pub listOf : (ℕ → ℕ) → ℕ → List ℕ
-listOf f zero = []
-listOf f (suc n) = listOf f n ++ (f n ∷ [])
 
 -- `Block::expanded`: nodes are records of three words; an update is 0, or a node's number and one
 pub record Graph : Type 0 where

@@ -1,4 +1,4 @@
--- Laws of `listOf`, and what the graph of a valid block keeps: `good-graph`.
+-- What the graph of a valid block keeps: `good-graph`.
 use mathlib.Core.Path.{_≡_, refl, _∙_}
 use mathlib.Core.Logic.{_⊎_, inl, inr}
 use mathlib.Core.List.{[], _∷_, _++_}
@@ -12,31 +12,18 @@ use Rattle.block.specs.Block.{Block, stateCount, delayCount, code, first, secon
 use Rattle.block.specs.Limits.{mostNodes}
 use Rattle.block.specs.Validation.{Counts, countsOf, expandedLength}
 use Rattle.block.specs.Valid.{Valid}
-use Rattle.expand.specs.Graph.{listOf, Graph, mappedUpdate, graphOf}
+use Rattle.tables.specs.Lists.{listOf, list-length, list-at}
+use Rattle.expand.specs.Graph.{Graph, mappedUpdate, graphOf}
 use Rattle.expand.specs.Lengths.{expansion-words-length}
 use Rattle.expand.specs.Good.{GoodNode, good-node, output-mapped, state-update-mapped, delay-update-mapped}
-
-pub list-of-length : (f : ℕ → ℕ) (n : ℕ) → length (listOf f n) ≡ n
-unfolding listOf
-list-of-length f zero = refl
-list-of-length f (suc n) = simp (length-append, list-of-length f n) (omega arith)
-
-pub list-of-at : (f : ℕ → ℕ) (n i : ℕ) → i < n → getD (listOf f n) i 0 ≡ f i
-unfolding listOf
-list-of-at f zero i h = absurd (not-suc-le-zero h)
-list-of-at f (suc n) i h = go (eq-or-lt-of-le (le-of-suc-le-suc h)) (list-of-at f n i)
-  where
-    go : (i ≡ n) ⊎ (i < n) → (i < n → getD (listOf f n) i 0 ≡ f i) → getD (listOf f n ++ (f n ∷ [])) i 0 ≡ f i
-    go (inl p) ih = rw p (getD-at (listOf f n) (f n) [] 0 n (list-of-length f n))
-    go (inr q) ih = List·getD-append (listOf f n) (f n ∷ []) 0 i (rw (list-of-length f n) q) ∙ ih q
 
 -- past the end 0 is read, so what holds of 0 and of every f i holds wherever it is read
 list-of-le : (f : ℕ → ℕ) (m n i : ℕ) → ((j : ℕ) → j < n → f j ≤ m) → getD (listOf f n) i 0 ≤ m
 list-of-le f m n i h = go (decLt i n)
   where
     go : Dec (i < n) → getD (listOf f n) i 0 ≤ m
-    go (yes q) = rw (list-of-at f n i q) (h i q)
-    go (no q) = rw (List·getD-eq-default (listOf f n) 0 {n = i} (omega (arith, list-of-length f n))) (omega arith)
+    go (yes q) = rw (list-at f n i q) (h i q)
+    go (no q) = rw (List·getD-eq-default (listOf f n) 0 {n = i} (omega (arith, list-length f n))) (omega arith)
 
 -- ---- the graph of a valid block
 pub record GoodGraph (n : Counts) (g : Graph) : Type 0 where

@@ -7,7 +7,7 @@ use lib.Dec.{leb, ltb}
 use Rattle.block.specs.Kinds.{offset, tanhSteps}
 use Rattle.block.specs.Limits.{mostNodes}
 use Rattle.expand.specs.Expansion.{mapNode}
-use Rattle.expand.specs.Graph.{listOf}
+use Rattle.tables.specs.Lists.{listOf}
 
 -- ---- of one node: 65,536 stands for a node past the table, and for a last expanded node that is not below it
 unfoldable pub mapWithin : List ℕ → ℕ → ℕ

@@ -16,8 +16,7 @@ use Rattle.block.specs.Block.{Block, nodeCount}
 use Rattle.block.specs.Kinds.{kindOf, lengthOf, nodeLength, offset, tanhSteps}
 use Rattle.block.specs.Valid.{Valid}
 use Rattle.expand.specs.Expansion.{mapNode, mapUpdate}
-use Rattle.expand.specs.Graph.{listOf}
-use Rattle.expand.specs.GraphLaws.{list-of-length, list-of-at}
+use Rattle.tables.specs.Lists.{listOf, list-length, list-at}
 use Rattle.expand.specs.Lengths.{node-positive, offset-start, offset-next, offset-le, offset-ge, map-below}
 use Rattle.expand.specs.Map.{mapWithin, mapUpdateWithin, mapOf, mapping, mapCall}
 
@@ -86,7 +85,7 @@ module _ (steps : ℕ) (nodes : List ℕ) where
 
   pub over-next : (l m : List ℕ) (i v : ℕ) → m ≡ mapOver steps nodes i l → v ≡ mapNode steps nodes i → set m i v ≡ mapOver steps nodes (i + 1) l
   unfolding mapOver listOf
-  over-next l m i v e w = rw (e, w, add-one) (sets-append l 0 i (mapOf steps nodes i) (mapNode steps nodes i ∷ []) (omega (arith, list-of-length (mapNode steps nodes) i)))
+  over-next l m i v e w = rw (e, w, add-one) (sets-append l 0 i (mapOf steps nodes i) (mapNode steps nodes i ∷ []) (omega (arith, list-length (mapNode steps nodes) i)))
 
   pub over-length : (n : ℕ) (l : List ℕ) → length (mapOver steps nodes n l) ≡ length l
   unfolding mapOver
@@ -95,18 +94,18 @@ module _ (steps : ℕ) (nodes : List ℕ) where
   pub over-at : (n : ℕ) (l : List ℕ) (i : ℕ) → n ≤ length l → i < n → getD (mapOver steps nodes n l) i 0 ≡ mapNode steps nodes i
   unfolding mapOver
   over-at n l i h q =
-      let c = list-of-length (mapNode steps nodes) n in
+      let c = list-length (mapNode steps nodes) n in
       let z : 0 + i ≡ i = omega arith in
-      rw z at (sets-in l 0 (mapOf steps nodes n) i (omega arith) (omega arith)) ∙ list-of-at (mapNode steps nodes) n i q
+      rw z at (sets-in l 0 (mapOf steps nodes n) i (omega arith) (omega arith)) ∙ list-at (mapNode steps nodes) n i q
 
   pub over-is : (n : ℕ) (l : List ℕ) → n ≤ length l → mapOver steps nodes n l ≡ mapOf steps nodes n ++ drop n l
   unfolding mapOver
   over-is n l h =
-      let c = list-of-length (mapNode steps nodes) n in
+      let c = list-length (mapNode steps nodes) n in
       sets-eq (mapOf steps nodes n) l 0 (omega arith) ∙ rw (zero-add, c)
 
   pub over-behind : (n : ℕ) (l : List ℕ) → n ≤ length l → drop n (mapOver steps nodes n l) ≡ drop n l
-  over-behind n l h = ap (drop n) (over-is n l h) ∙ drop-at (mapOf steps nodes n) (drop n l) n (list-of-length (mapNode steps nodes) n)
+  over-behind n l h = ap (drop n) (over-is n l h) ∙ drop-at (mapOf steps nodes n) (drop n l) n (list-length (mapNode steps nodes) n)
 
 -- ---- the loop that writes the map: the nodes below i are mapped, and `total` is where node i's expansion starts
 pub record Filling (steps : ℕ) (nodes l₀ : List ℕ) (n : ℕ) (l : List ℕ) (total i : ℕ) : Type 0 where

@@ -29,7 +29,7 @@ use Rattle.expand.specs.Map.{Mapping, mapping, mapOf, mapCall}
 use Rattle.expand.specs.MapLaws.{map-call-valid}
 use Rattle.expand.specs.Lengths.{expansion-words-length, offset-ge}
 use Rattle.expand.specs.Graph.{graphOf}
-use Rattle.memory.specs.ListLaws.{list-length, list-at}
+use Rattle.tables.specs.Lists.{list-length, list-at}
 use Rattle.memory.specs.Sizes.{runFits}
 use Rattle.memory.specs.SizeLaws.{Fitting, fitting}
 use Rattle.graph_run.specs.Ready.{Lent}

@@ -6,7 +6,8 @@ use lib.ListN.{length, getD, take}
 use lib.Dec.{eqb}
 use Rattle.block.specs.Block.{update}
 use Rattle.block.specs.Limits.{mostNodes, mostStates}
-use Rattle.expand.specs.Graph.{Graph, listOf}
+use Rattle.tables.specs.Lists.{listOf}
+use Rattle.expand.specs.Graph.{Graph}
 use Rattle.memory.specs.Lines.{Memories}
 use Rattle.memory.specs.Fit.{Small}
 use Rattle.graph_run.specs.Ready.{graph, Ready}

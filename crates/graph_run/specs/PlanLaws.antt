@@ -16,11 +16,11 @@ use Rattle.block.specs.Validation.{expandedLength}
 use Rattle.block.specs.Valid.{Valid}
 use Rattle.expand.specs.Nodes.{wordsOf}
 use Rattle.expand.specs.Expansion.{expansion, mapNode, mapUpdate}
-use Rattle.expand.specs.Graph.{Graph, listOf, mappedUpdate, graphOf}
+use Rattle.expand.specs.Graph.{Graph, mappedUpdate, graphOf}
 use Rattle.expand.specs.Lengths.{expansion-words-length, offset-ge}
 use Rattle.expand.specs.Good.{good-node, output-mapped, state-update-mapped, delay-update-mapped}
 use Rattle.memory.specs.Lines.{Memories}
-use Rattle.memory.specs.ListLaws.{list-length, list-at}
+use Rattle.tables.specs.Lists.{listOf, list-length, list-at, list-same}
 use Rattle.memory.specs.SizeLaws.{Fitting, small, fit}
 use Rattle.graph_run.specs.Run.{Signals, Rendered, samplesTo}
 use Rattle.graph_run.specs.Ready.{graph, Ready}
@@ -62,11 +62,6 @@ pub samples-of : (g h : Graph) (flag : ℕ) (s : Signals) (r x : Rendered) (n : 
 samples-of g h flag s r x n e p = p ∙ ap (λ (y : Graph). samplesTo y flag s r n) e
 
 -- ---- the planned graph is the expanded block
-list-same : (f g : ℕ → ℕ) (n : ℕ) → ((i : ℕ) → i < n → f i ≡ g i) → listOf f n ≡ listOf g n
-unfolding listOf
-list-same f g zero h = refl
-list-same f g (suc n) h = let e = list-same f g n (λ i q. h i (omega arith)) in rw (e, h n (omega arith))
-
 -- a table that begins with the map of a block's nodes, and has a word for each expanded node
 pub record IsMap (b : Block) (map : List ℕ) : Type 0 where
   pub maps : (i : ℕ) → i < nodeCount b → getD map i 0 ≡ mapNode tanhSteps (b .nodes) i

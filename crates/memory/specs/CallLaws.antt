@@ -14,7 +14,7 @@ use Rattle.answers.specs.Numbers.{Answer, accepted, refused, answerOf}
 use Rattle.answers.specs.OrderLaws.{then-stop, then-pass, refuse-stop, refuse-pass, refuse-on, refuse-off}
 use Rattle.block.specs.Block.{Block, parameterCount, minimum, maximum, initial}
 use Rattle.block.specs.Validation.{validation}
-use Rattle.expand.specs.Graph.{listOf}
+use Rattle.tables.specs.Lists.{listOf}
 use Rattle.memory.specs.Lines.{Memories, memories}
 use Rattle.memory.specs.Sizes.{memoriesFit}
 use Rattle.memory.specs.Calls.{setOutcome, setAnswer, setAfter, setCall, resetOutcome, resetAnswer, startMemories, resetAfter, resetCall}

@@ -9,7 +9,7 @@ use Rattle.answers.specs.Numbers.{Answer, accepted, refused}
 use Rattle.answers.specs.Order.{_⨾_, refuse}
 use Rattle.block.specs.Block.{Block, parameterCount, stateCount, delayCount, minimum, maximum, initial}
 use Rattle.block.specs.Validation.{validation}
-use Rattle.expand.specs.Graph.{listOf}
+use Rattle.tables.specs.Lists.{listOf}
 use Rattle.memory.specs.Lines.{Memories, memories}
 use Rattle.memory.specs.Sizes.{valuesFit, areaLength, memoriesFit}
 

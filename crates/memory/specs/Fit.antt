@@ -8,7 +8,7 @@ use Rattle.tables.specs.Loops.{sum}
 use Rattle.tables.specs.Zeros.{zeros}
 use Rattle.block.specs.Block.{delayLength}
 use Rattle.block.specs.Limits.{mostDelays, mostDelaySamples}
-use Rattle.expand.specs.Graph.{listOf}
+use Rattle.tables.specs.Lists.{listOf}
 use Rattle.memory.specs.Lines.{lineLength, lineBase}
 
 -- the lengths in a delay table: "delay: length, update"

@@ -2,7 +2,6 @@
 pub mod Lines
 pub mod Sizes
 pub mod Calls
-pub mod ListLaws
 pub mod Fit
 pub mod LineLaws
 pub mod SizeLaws

@@ -11,13 +11,12 @@ use lib.Seq.{getD-set-same, getD-set-other, length-take-le}
 use lib.Dec.{eqb}
 use borrow.Author.Tests.{eqb-true, eqb-false}
 use borrow.Rule.Slice.PartMut.{putMid, midOf}
-use Rattle.tables.specs.Loops.{sum, sum-next, sum-le}
+use Rattle.tables.specs.Loops.{sum, sum-next, sum-le, sum-same}
 use Rattle.tables.specs.Parts.{put-set}
 use Rattle.tables.specs.Zeros.{zeros, zeros-length}
 use Rattle.block.specs.Block.{delayLength}
 use Rattle.block.specs.Limits.{mostDelays, mostDelaySamples}
-use Rattle.expand.specs.Graph.{listOf}
-use Rattle.memory.specs.ListLaws.{list-length, list-at, sum-same, filled, filled-next, filled-zeros}
+use Rattle.tables.specs.Lists.{listOf, list-length, list-at, filled, filled-next, filled-zeros}
 use Rattle.memory.specs.Lines.{Memories, memories, lineLength, lineBase, readDelay, storeDelay, storeState}
 use Rattle.memory.specs.Fit.{lineLengths, lineBases, Small, Fit, Reach, Stored, stored}
 

@@ -12,7 +12,7 @@ ghost use Prim.Native.Nat.{_/_};
 ghost use lib.ListN.{length};
 ghost use Rattle.answers.specs.Numbers.{answerOf};
 ghost use Rattle.block.specs.Block.{block, initial};
-ghost use Rattle.expand.specs.Graph.{listOf};
+ghost use Rattle.tables.specs.Lists.{listOf};
 ghost use Rattle.memory.specs.Lines.{memories};
 ghost use Rattle.memory.specs.Calls.{setOutcome, setCall, resetOutcome, resetCall};
 

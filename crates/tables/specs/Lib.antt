@@ -10,3 +10,4 @@ pub mod Parts
 pub mod Stores
 -- zeroing and copying
 pub mod Zeros
+pub mod Lists

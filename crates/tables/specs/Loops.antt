@@ -129,6 +129,12 @@ sum-turn f i t e = rw (sum-next f i, e)
 pub sum-end : (f : ℕ → ℕ) (i n t : ℕ) → i ≤ n → n ≤ i → t ≡ sum f i → t ≡ sum f n
 sum-end f i n t h l e = let q : i ≡ n = omega arith in rw q at e
 
+-- functions that agree below n have one sum
+pub sum-same : (f g : ℕ → ℕ) (n : ℕ) → ((i : ℕ) → i < n → f i ≡ g i) → sum f n ≡ sum g n
+unfolding sum
+sum-same f g zero h = refl
+sum-same f g (suc n) h = let e = sum-same f g n (λ i q. h i (omega arith)) in rw (e, h n (omega arith))
+
 -- more indices, no smaller sum: an early return where a total is too large
 pub sum-le : (f : ℕ → ℕ) (i n : ℕ) → i ≤ n → sum f i ≤ sum f n
 unfolding sum

@@ -3,7 +3,7 @@ use mathlib.Core.Path.{_≡_}
 use Prim.Native.Nat.{_-_, _≤_}
 use native.Mathlib.Omega.{arith}
 use Rattle.block.specs.Block.{initial}
-use Rattle.memory.specs.ListLaws.{filled, filled-start, filled-next, filled-last, filled-length}
+use Rattle.tables.specs.Lists.{filled, filled-start, filled-next, filled-last, filled-length}
 use borrow.Author.Needs.{needs}
 use Rattle.memory.proofs.write_initial.Statement.{statement}
 use Rattle.memory.proofs.write_initial.Tie as tie

@@ -1,7 +1,7 @@
 -- `mapped_updates`: before turn i the first i words are the mapped updates. Assumes nothing.
 use mathlib.Core.List.{[]}
 use Rattle.graph_run.specs.PlanLaws.{list-start, list-next, mapped-end}
-use Rattle.expand.specs.Graph.{listOf}
+use Rattle.tables.specs.Lists.{listOf}
 use lib.ListN.{length, take, length-set}
 use Rattle.graph_run.specs.Plan.{mappedWord}
 use Rattle.tables.specs.Zeros.{zeros-length}

@@ -6,7 +6,7 @@ use Rattle.tables.specs.Loops.{sum, sum-start, sum-turn}
 use Rattle.block.specs.Block.{delayLength}
 use Rattle.memory.specs.Lines.{lineBase}
 use Rattle.memory.specs.Fit.{lineLengths}
-use Rattle.memory.specs.ListLaws.{filled, filled-start}
+use Rattle.tables.specs.Lists.{filled, filled-start}
 use Rattle.memory.specs.LineLaws.{bases-room, bases-next, bases-end}
 use borrow.Author.Needs.{needs}
 use Rattle.memory.proofs.lines.line_bases.Statement.{statement}

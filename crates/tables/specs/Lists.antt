@@ -1,4 +1,4 @@
--- Laws of `listOf f n`, f of each index below n in order, and of a loop that writes it into a table. Assumes nothing.
+-- `listOf f n`: f of each index below n, in order; its laws, and a loop that writes it into a table. Assumes nothing.
 use mathlib.Core.Path.{_≡_, refl, sym, ap, _∙_}
 use mathlib.Core.List.{List, [], _∷_, _++_, append-assoc, append-nil}
 use Prim.Native.Nat.{ℕ, zero, suc, _+_, _-_, _≤_, _<_}
@@ -7,9 +7,12 @@ use native.Mathlib.Decide.{decLt}
 use native.Mathlib.Omega.{arith}
 use lib.ListN.{length, getD, set, drop, length-append, length-drop, List·getD-append}
 use lib.Seq.{getD-at, set-at, drop-cons, drop-length}
-use Rattle.tables.specs.Loops.{sum}
 use Rattle.tables.specs.Zeros.{zeros}
-use Rattle.expand.specs.Graph.{listOf}
+
+-- f of each index below n, in order
+unfoldable pub listOf : (ℕ → ℕ) → ℕ → List ℕ
+listOf f zero = []
+listOf f (suc n) = listOf f n ++ (f n ∷ [])
 
 -- it has n words
 pub list-length : (f : ℕ → ℕ) (n : ℕ) → length (listOf f n) ≡ n
@@ -29,11 +32,11 @@ list-at f (suc n) i h = go (decLt i n) (list-at f n i)
         let e : i ≡ n = omega arith in
         rw e (getD-at (listOf f n) (f n) [] 0 n (list-length f n))
 
--- functions that agree below n have one sum
-pub sum-same : (f g : ℕ → ℕ) (n : ℕ) → ((i : ℕ) → i < n → f i ≡ g i) → sum f n ≡ sum g n
-unfolding sum
-sum-same f g zero h = refl
-sum-same f g (suc n) h = let e = sum-same f g n (λ i q. h i (omega arith)) in rw (e, h n (omega arith))
+-- functions that agree below n make one list
+pub list-same : (f g : ℕ → ℕ) (n : ℕ) → ((i : ℕ) → i < n → f i ≡ g i) → listOf f n ≡ listOf g n
+unfolding listOf
+list-same f g zero h = refl
+list-same f g (suc n) h = let e = list-same f g n (λ i q. h i (omega arith)) in rw (e, h n (omega arith))
 
 -- ---- a loop that stores f i at i
 
