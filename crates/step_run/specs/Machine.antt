@@ -27,10 +27,17 @@ pub record Machine : Type 0 where
   pub output : ℕ
   pub executed : ℕ
 
+abbrev pub machine : List ℕ → List ℕ → List ℕ → Memories → ℕ → ℕ → Machine
+machine registers control spills m output executed =
+    record { registers = registers; control = control; spills = spills; memories = m; output = output; executed = executed }
+
 -- what a list of steps runs with and never writes: the delay lengths and the instruction table
 pub record Program : Type 0 where
   pub lengths : List ℕ
   pub instructions : List ℕ
+
+abbrev pub program : List ℕ → List ℕ → Program
+program lengths instructions = record { lengths = lengths; instructions = instructions }
 
 -- ---- host.rs, `execute`
 abbrev pub register : List ℕ → ℕ → ℕ
@@ -67,35 +74,35 @@ executeWords registers (InstructionWords.Formed i) = execute registers i
 executeWords registers InstructionWords.Malformed = registers
 
 -- ---- host.rs, the arms of `run_lowered`
-abbrev pub loaded : List ℕ → Given → Machine → Source → ℕ
-loaded lengths x m Source.Audio = x .audio
-loaded lengths x m Source.Network = x .network
-loaded lengths x m (Source.Parameter index) = getD (x .parameters) index 0
-loaded lengths x m (Source.State index) = getD (m .memories .states) index 0
-loaded lengths x m (Source.Delay index) = readDelay lengths (m .memories) index
-loaded lengths x m (Source.Control slot) = getD (m .control) slot 0
+abbrev pub loaded : List ℕ → Given → List ℕ → Memories → Source → ℕ
+loaded lengths x control m Source.Audio = x .audio
+loaded lengths x control m Source.Network = x .network
+loaded lengths x control m (Source.Parameter index) = getD (x .parameters) index 0
+loaded lengths x control m (Source.State index) = getD (m .states) index 0
+loaded lengths x control m (Source.Delay index) = readDelay lengths m index
+loaded lengths x control m (Source.Control slot) = getD control slot 0
 
 abbrev pub withRegisters : Machine → List ℕ → Machine
-withRegisters m r = record { registers = r; control = m .control; spills = m .spills; memories = m .memories; output = m .output; executed = m .executed }
+withRegisters m r = machine r (m .control) (m .spills) (m .memories) (m .output) (m .executed)
 
 abbrev pub withControl : Machine → List ℕ → Machine
-withControl m c = record { registers = m .registers; control = c; spills = m .spills; memories = m .memories; output = m .output; executed = m .executed }
+withControl m c = machine (m .registers) c (m .spills) (m .memories) (m .output) (m .executed)
 
 abbrev pub withSpills : Machine → List ℕ → Machine
-withSpills m s = record { registers = m .registers; control = m .control; spills = s; memories = m .memories; output = m .output; executed = m .executed }
+withSpills m s = machine (m .registers) (m .control) s (m .memories) (m .output) (m .executed)
 
 abbrev pub withMemories : Machine → Memories → Machine
-withMemories m k = record { registers = m .registers; control = m .control; spills = m .spills; memories = k; output = m .output; executed = m .executed }
+withMemories m k = machine (m .registers) (m .control) (m .spills) k (m .output) (m .executed)
 
 abbrev pub withOutput : Machine → ℕ → Machine
-withOutput m v = record { registers = m .registers; control = m .control; spills = m .spills; memories = m .memories; output = v; executed = m .executed }
+withOutput m v = machine (m .registers) (m .control) (m .spills) (m .memories) v (m .executed)
 
 abbrev pub withRegister : Machine → ℕ → ℕ → Machine
 withRegister m r v = withRegisters m (set (m .registers) r v)
 
 -- what a step does
 abbrev pub act : Program → Given → Machine → Step → Machine
-act p x m (Load source r) = withRegister m r (loaded (p .lengths) x m source)
+act p x m (Load source r) = withRegister m r (loaded (p .lengths) x (m .control) (m .memories) source)
 act p x m (Compute i) = withRegisters m (executeWords (m .registers) (instructionAt (p .instructions) i))
 act p x m (Spill slot r) = withSpills m (set (m .spills) slot (register (m .registers) r))
 act p x m (Reload slot r) = withRegister m r (getD (m .spills) slot 0)
@@ -106,10 +113,10 @@ act p x m (StoreControl slot r) = withControl m (set (m .control) slot (register
 
 -- one step more is executed
 abbrev pub counted : Machine → Machine
-counted m = record { registers = m .registers; control = m .control; spills = m .spills; memories = m .memories; output = m .output; executed = m .executed + 1 }
+counted m = machine (m .registers) (m .control) (m .spills) (m .memories) (m .output) (m .executed + 1)
 
 -- words that are no step never run (answer 15)
-abbrev pub actWords : Program → Given → Machine → StepWords → Machine
+unfoldable pub actWords : Program → Given → Machine → StepWords → Machine
 actWords p x m (StepWords.Formed step) = counted (act p x m step)
 actWords p x m StepWords.Malformed = m
 

@@ -1,24 +1,24 @@
 -- The step run over the samples of a call, and the call. Definitions alone.
 use mathlib.Core.Bool.{Bool, not, cond, _||_}
-use mathlib.Core.List.{List, [], _∷_, _++_}
+use mathlib.Core.List.{List, _++_}
 use Prim.Native.Nat.{ℕ, zero, suc, _+_, _*_}
-use lib.ListN.{length, getD, set, drop, replicate}
+use lib.ListN.{length, set, drop, replicate}
 use lib.Dec.{eqb, ltb}
 use Rattle.answers.specs.Numbers as Numbers
 use Rattle.answers.specs.Order.{_⨾_, refuse}
 use Rattle.block.specs.Block.{Block, parameterCount, stateCount, delayCount}
 use Rattle.block.specs.Validation.{expandedLength, validation}
-use Rattle.expand.specs.Graph.{Graph, graphOf}
+use Rattle.expand.specs.Graph.{graphOf}
 use Rattle.kernel.specs.declared.Kernel.{Kernel}
 use Rattle.kernel.specs.Lists.{sizes, listMayRun}
 use Rattle.memory.specs.Lines.{Memories}
 use Rattle.memory.specs.Sizes.{runFits}
 use Rattle.graph_run.specs.Sample.{given}
-use Rattle.graph_run.specs.Run.{Signals, Rendered, rendered, givenAt}
+use Rattle.graph_run.specs.Run.{Signals, Rendered, rendered, givenBy}
 use Rattle.step_run.specs.declared.Done.{Done}
 use Rattle.step_run.specs.declared.Answer.{Answer}
 use Rattle.step_run.specs.declared.Answer.the-variants.{Accepted, Refused}
-use Rattle.step_run.specs.Machine.{Machine, Program, stepsTo, withOutput}
+use Rattle.step_run.specs.Machine.{Machine, machine, Program, program, stepsTo, withOutput}
 use Rattle.step_run.specs.Budget.{samplesDone}
 
 -- a kernel with its tables
@@ -34,22 +34,40 @@ codeOf kernel steps instructions = record { kernel = kernel; steps = steps; inst
 abbrev pub noOutput : ℕ
 noOutput = 0x7fc00000
 
-abbrev pub programOf : Block → Code → Program
-programOf b c = record { lengths = graphOf b .delayLengths; instructions = c .instructions }
+-- what the samples of a call run with and never write: the delay lengths, the network flag, the kernel, parameter values and signals
+pub record Setup : Type 0 where
+  pub lengths : List ℕ
+  pub network : ℕ
+  pub code : Code
+  pub signals : Signals
+
+abbrev pub setup : List ℕ → ℕ → Code → Signals → Setup
+setup lengths network code signals = record { lengths = lengths; network = network; code = code; signals = signals }
+
+abbrev pub setupOf : Block → Code → Signals → Setup
+setupOf b c s = setup (graphOf b .delayLengths) (b .header .network) c s
+
+abbrev pub programOf : Setup → Program
+programOf u = program (u .lengths) (u .code .instructions)
 
 -- "The step run clears registers, control and spill tables at entry": so many words of control and spill table
 abbrev pub cleared : ℕ → ℕ → Memories → Machine
-cleared control spills m =
-    record { registers = replicate 16 0; control = replicate control 0; spills = replicate spills 0; memories = m; output = noOutput; executed = 0 }
+cleared control spills m = machine (replicate 16 0) (replicate control 0) (replicate spills 0) m noOutput 0
 
 -- "Control steps run once per call": they load parameters and control slots alone, so what the sample would be given does not matter
-unfoldable pub controlDone : Block → Code → Signals → Machine → Machine
-controlDone b c s m = stepsTo (programOf b c) (c .steps) (given 0 0 (s .parameters)) m 0 (c .kernel .control)
+unfoldable pub controlDone : Setup → Machine → Machine
+controlDone u m = stepsTo (programOf u) (u .code .steps) (given 0 0 (u .signals .parameters)) m 0 (u .code .kernel .control)
 
 -- sample t: the sample steps, from a machine with no output word
-unfoldable pub sampleDone : Block → Code → Signals → Machine → ℕ → Machine
-sampleDone b c s m t =
-    stepsTo (programOf b c) (c .steps) (givenAt b s t) (withOutput m noOutput) (c .kernel .control) (c .kernel .sample)
+unfoldable pub sampleDone : Setup → Machine → ℕ → Machine
+sampleDone u m t =
+    stepsTo
+    (programOf u)
+    (u .code .steps)
+    (givenBy (u .network) (u .signals) t)
+    (withOutput m noOutput)
+    (u .code .kernel .control)
+    (u .code .kernel .sample)
 
 -- a machine between samples, and the output table so far
 pub record Running : Type 0 where
@@ -63,11 +81,11 @@ abbrev pub emit : Machine → List ℕ → ℕ → Running
 emit m output t = running m (set output t (m .output))
 
 -- the first n samples
-unfoldable pub samplesTo : Block → Code → Signals → Running → ℕ → Running
-samplesTo b c s r zero = r
-samplesTo b c s r (suc t) =
-    let before = samplesTo b c s r t in
-    emit (sampleDone b c s (before .machine) t) (before .output) t
+unfoldable pub samplesTo : Setup → Running → ℕ → Running
+samplesTo u r zero = r
+samplesTo u r (suc t) =
+    let before = samplesTo u r t in
+    emit (sampleDone u (before .machine) t) (before .output) t
 
 -- ---- the call: every lent table that it writes, and the registers
 pub record Tables : Type 0 where
@@ -93,50 +111,58 @@ answerOf (Accepted d) = Numbers.accepted d
 answerOf (Refused r) = Numbers.refusal r
 
 -- the run of n samples, from cleared registers and slots
-unfoldable pub runFor : Block → Code → Signals → Tables → ℕ → Running
-runFor b c s t n =
+unfoldable pub runFor : Setup → Tables → ℕ → Running
+runFor u t n =
     let start = cleared (length (t .control)) (length (t .spills)) (t .rendered .memories) in
-    samplesTo b c s (running (controlDone b c s start) (t .rendered .output)) n
+    samplesTo u (running (controlDone u start) (t .rendered .output)) n
 
 -- how many samples a call does
 abbrev pub samplesOf : Code → ℕ → Signals → ℕ
 samplesOf c budget s = samplesDone (c .kernel) budget (length (s .input))
 
 -- "steps spent is that sum, or 0 when n is 0": the steps that the run executed
-unfoldable pub stepsSpent : Block → Code → Signals → Tables → ℕ → ℕ
-stepsSpent b c s t n = cond (eqb n 0) 0 (runFor b c s t n .machine .executed)
+unfoldable pub stepsSpent : Setup → Tables → ℕ → ℕ
+stepsSpent u t n = cond (eqb n 0) 0 (runFor u t n .machine .executed)
 
--- 13: a table "shorter than stated below, than a declared count"
-unfoldable pub tooShort : Block → Code → Tables → Bool
+-- 13: a table "shorter than stated below, than a declared count": the expanded length, then the lengths of expansion, steps, instructions, control and
+-- spill table
+unfoldable pub shorter : Kernel → ℕ → ℕ → ℕ → ℕ → ℕ → ℕ → Bool
+shorter k nodes expansion steps instructions control spills =
+    ltb expansion (3 * nodes)
+    || ltb steps (2 * (k .control + k .sample))
+    || ltb instructions (2 * k .instructions)
+    || ltb control (k .slots)
+    || ltb spills (k .spills)
+
+abbrev pub tooShort : Block → Code → Tables → Bool
 tooShort b c t =
-    ltb (length (t .expansion)) (3 * expandedLength b)
-    || ltb (length (c .steps)) (2 * (c .kernel .control + c .kernel .sample))
-    || ltb (length (c .instructions)) (2 * c .kernel .instructions)
-    || ltb (length (t .control)) (c .kernel .slots)
-    || ltb (length (t .spills)) (c .kernel .spills)
+    shorter (c .kernel) (expandedLength b) (length (t .expansion)) (length (c .steps)) (length (c .instructions)) (length (t .control)) (length (t .spills))
 
-unfoldable pub runAnswer : Block → Code → ℕ → Signals → Tables → Numbers.Answer Done
-runAnswer b c budget s t =
+-- the refusals of a call: 1 to 13, 15 and 16
+unfoldable pub runJudged : Block → Code → Signals → Tables → Numbers.Answer Unit
+runJudged b c s t =
     validation b
     ⨾ refuse 13 (tooShort b c t)
     ⨾ refuse 15 (not (listMayRun (sizes (parameterCount b) (stateCount b) (delayCount b) (c .kernel)) (c .steps) (c .instructions) (c .kernel)))
     ⨾ refuse 16 (not (runFits b (s .parameters) (t .rendered .memories) (s .input) (t .rendered .output) (s .network)))
-    ⨾ Numbers.accepted (record { samples = samplesOf c budget s; steps = stepsSpent b c s t (samplesOf c budget s) })
+
+unfoldable pub runAnswer : Block → Code → ℕ → Signals → Tables → Numbers.Answer Done
+runAnswer b c budget s t =
+    runJudged b c s t
+    ⨾ Numbers.accepted (record { samples = samplesOf c budget s; steps = stepsSpent (setupOf b c s) t (samplesOf c budget s) })
 
 abbrev pub expansionAfter : Block → Tables → List ℕ
 expansionAfter b t = graphOf b .nodes ++ drop (3 * expandedLength b) (t .expansion)
 
+-- what a run of samples leaves
+abbrev pub tablesOf : List ℕ → Running → Tables
+tablesOf expansion r =
+    tables expansion (r .machine .control) (r .machine .spills) (rendered (r .output) (r .machine .memories)) (r .machine .registers)
+
 -- what n samples leave; "when n is 0 .. only the expansion is written"
 abbrev pub tablesAfter : Block → Code → Signals → Tables → ℕ → Tables
 tablesAfter b c s t zero = tables (expansionAfter b t) (t .control) (t .spills) (t .rendered) (t .registers)
-tablesAfter b c s t (suc n) =
-    let r = runFor b c s t (suc n) in
-    tables
-    (expansionAfter b t)
-    (r .machine .control)
-    (r .machine .spills)
-    (rendered (r .output) (r .machine .memories))
-    (r .machine .registers)
+tablesAfter b c s t (suc n) = tablesOf (expansionAfter b t) (runFor (setupOf b c s) t (suc n))
 
 unfoldable pub runAfter : Numbers.Answer Done → Block → Code → Signals → Tables → Tables
 runAfter (Numbers.accepted d) b c s t = tablesAfter b c s t (d .samples)
