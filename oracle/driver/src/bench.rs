@@ -61,7 +61,4 @@ pub fn run(ours: &mut Ours) {
         block.version = 2;
         block
     });
-    if cfg!(not(target_arch = "x86_64")) {
-        println!("ours ran in an emulator: on this machine the ratios say nothing");
-    }
 }
