@@ -35,7 +35,8 @@ use Rattle.memory.specs.SizeLaws.{Fitting, fitting}
 use Rattle.graph_run.specs.Ready.{Lent}
 use Rattle.graph_run.specs.Plan.{mappedGraph, Planned}
 use Rattle.graph_run.specs.PlanLaws.{samples-of, IsMap, graph-is, planned}
-use Rattle.graph_run.specs.Run.{Signals, Rendered, rendered, samplesTo, Tables, tables, Outcome, outcome, runAnswer, runAfter, runCall}
+use Rattle.memory.specs.Signals.{Signals, Rendered, rendered}
+use Rattle.graph_run.specs.Run.{samplesTo, Tables, tables, Outcome, outcome, runAnswer, runAfter, runCall}
 
 -- what an accepted call is
 pub record Accepted (b : Block) (s : Signals) (t : Tables) : Type 0 where

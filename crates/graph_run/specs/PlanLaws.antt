@@ -22,7 +22,8 @@ use Rattle.expand.specs.Good.{good-node, output-mapped, state-update-mapped, de
 use Rattle.memory.specs.Lines.{Memories}
 use Rattle.tables.specs.Lists.{listOf, list-length, list-at, list-same}
 use Rattle.memory.specs.SizeLaws.{Fitting, small, fit}
-use Rattle.graph_run.specs.Run.{Signals, Rendered, samplesTo}
+use Rattle.memory.specs.Signals.{Signals, Rendered}
+use Rattle.graph_run.specs.Run.{samplesTo}
 use Rattle.graph_run.specs.Ready.{graph, Ready}
 use Rattle.graph_run.specs.Plan.{mappedWord, mappedUpdates, mappedGraph, Mappable, Planned}
 

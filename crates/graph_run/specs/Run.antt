@@ -1,9 +1,9 @@
 -- The graph run over the samples of a call, and the call. Definitions alone.
-use mathlib.Core.Bool.{not, cond, _||_}
+use mathlib.Core.Bool.{not, _||_}
 use mathlib.Core.List.{List, _++_}
 use Prim.Native.Nat.{ℕ, zero, suc, _*_}
-use lib.ListN.{length, getD, set, drop, replicate}
-use lib.Dec.{eqb, ltb}
+use lib.ListN.{length, set, drop, replicate}
+use lib.Dec.{ltb}
 use Rattle.answers.specs.Numbers.{Answer, accepted, refused}
 use Rattle.answers.specs.Order.{_⨾_, refuse}
 use Rattle.block.specs.Block.{Block}
@@ -11,35 +11,8 @@ use Rattle.block.specs.Validation.{expandedLength, validation}
 use Rattle.expand.specs.Graph.{Graph, graphOf}
 use Rattle.memory.specs.Lines.{Memories}
 use Rattle.memory.specs.Sizes.{runFits}
-use Rattle.graph_run.specs.Sample.{Given, given, Sampled, sample}
-
--- "Network words come in a table, one per sample; with the flag clear they are 0."
-unfoldable pub networkWord : ℕ → List ℕ → ℕ → ℕ
-networkWord flag network t = cond (eqb flag 0) 0 (getD network t 0)
-
--- what a call is given and does not write
-pub record Signals : Type 0 where
-  pub parameters : List ℕ
-  pub input : List ℕ
-  pub network : List ℕ
-
-abbrev pub signals : List ℕ → List ℕ → List ℕ → Signals
-signals parameters input network = record { parameters = parameters; input = input; network = network }
-
--- what sample t is given, by the block's network flag
-abbrev pub givenBy : ℕ → Signals → ℕ → Given
-givenBy flag s t = given (getD (s .input) t 0) (networkWord flag (s .network) t) (s .parameters)
-
-abbrev pub givenAt : Block → Signals → ℕ → Given
-givenAt b s t = givenBy (b .header .network) s t
-
--- output words and memories
-pub record Rendered : Type 0 where
-  pub output : List ℕ
-  pub memories : Memories
-
-abbrev pub rendered : List ℕ → Memories → Rendered
-rendered output m = record { output = output; memories = m }
+use Rattle.memory.specs.Signals.{Signals, givenBy, Rendered, rendered}
+use Rattle.graph_run.specs.Sample.{Sampled, sample}
 
 -- sample t's word goes to the output's place t
 abbrev pub emit : Rendered → ℕ → Sampled → Rendered

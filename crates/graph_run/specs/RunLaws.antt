@@ -7,8 +7,9 @@ use native.Mathlib.Omega.{arith}
 use lib.ListN.{length, set, length-set}
 use Rattle.expand.specs.Graph.{Graph}
 use Rattle.memory.specs.Lines.{Memories, memories}
-use Rattle.graph_run.specs.Sample.{Given, values, updated, Sampled, sampled, sample}
-use Rattle.graph_run.specs.Run.{Signals, givenBy, Rendered, rendered, emit, samplesTo}
+use Rattle.memory.specs.Signals.{Given, Signals, givenBy, Rendered, rendered}
+use Rattle.graph_run.specs.Sample.{values, updated, Sampled, sampled, sample}
+use Rattle.graph_run.specs.Run.{emit, samplesTo}
 use Rattle.graph_run.specs.Ready.{Ready}
 use Rattle.graph_run.specs.SampleLaws.{Same, same-refl, same-trans, updated-same, updated-ready}
 

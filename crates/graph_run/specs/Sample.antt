@@ -8,15 +8,7 @@ use Rattle.words.specs.Operations.{operate}
 use Rattle.block.specs.Block.{code, first, second}
 use Rattle.expand.specs.Graph.{Graph}
 use Rattle.memory.specs.Lines.{Memories, memories, readDelay, storeDelay}
-
--- what a sample reads besides the memories: the audio word, the network word and the parameter values
-pub record Given : Type 0 where
-  pub audio : ℕ
-  pub network : ℕ
-  pub parameters : List ℕ
-
-abbrev pub given : ℕ → ℕ → List ℕ → Given
-given audio network parameters = record { audio = audio; network = network; parameters = parameters }
+use Rattle.memory.specs.Signals.{Given}
 
 -- a node's value by its code, from the values of the nodes before it; the delay lines have these lengths
 unfoldable pub valueOf : List ℕ → Given → Memories → List ℕ → ℕ → ℕ → ℕ → ℕ

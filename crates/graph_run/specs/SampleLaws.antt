@@ -19,7 +19,8 @@ use Rattle.expand.specs.Graph.{Graph}
 use Rattle.memory.specs.Lines.{Memories, memories}
 use Rattle.memory.specs.Fit.{Fit}
 use Rattle.memory.specs.LineLaws.{states-kept, area-kept, cursors-kept, fit-store}
-use Rattle.graph_run.specs.Sample.{Given, valueOf, nodeValue, valuesTo, values, updateState, updateStates, updateDelay, updateDelays, updated, sampled, sample}
+use Rattle.memory.specs.Signals.{Given}
+use Rattle.graph_run.specs.Sample.{valueOf, nodeValue, valuesTo, values, updateState, updateStates, updateDelay, updateDelays, updated, sampled, sample}
 use Rattle.graph_run.specs.Ready.{Updates, Ready}
 
 -- a good node of another code than those of sources computes: its operands stand before it

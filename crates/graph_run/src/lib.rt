@@ -12,7 +12,8 @@ ghost use mathlib.Core.Path.{_≡_};
 ghost use Rattle.answers.specs.Numbers.{accepted, answerOf};
 ghost use Rattle.block.specs.Block.{block};
 ghost use Rattle.memory.specs.Lines.{memories};
-ghost use Rattle.graph_run.specs.Run.{signals, rendered, tables, outcome, runAnswer, runAfter, runCall};
+ghost use Rattle.memory.specs.Signals.{signals, rendered};
+ghost use Rattle.graph_run.specs.Run.{tables, outcome, runAnswer, runAfter, runCall};
 
 // The answer of a call, from the lengths and words of its tables.
 fn judge(

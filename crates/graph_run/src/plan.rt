@@ -5,7 +5,8 @@ ghost use mathlib.Core.Path.{_≡_};
 ghost use Prim.Native.Nat.{_/_, _<_};
 ghost use lib.ListN.{length, take};
 ghost use Rattle.memory.specs.Lines.{memories};
-ghost use Rattle.graph_run.specs.Run.{signals, rendered, samplesTo};
+ghost use Rattle.memory.specs.Signals.{signals, rendered};
+ghost use Rattle.graph_run.specs.Run.{samplesTo};
 ghost use Rattle.graph_run.specs.Ready.{Lent};
 ghost use Rattle.graph_run.specs.Plan.{mappedWord, mappedUpdates, mappedGraph, Mappable, Planned};
 

@@ -8,7 +8,8 @@ ghost use Rattle.words.specs.Operations.{operate};
 ghost use Rattle.expand.specs.Good.{GoodNode};
 ghost use Rattle.memory.specs.Lines.{memories};
 ghost use Rattle.memory.specs.Fit.{lineLengths, lineBases};
-ghost use Rattle.graph_run.specs.Sample.{given, valueOf, valuesTo, updateState, updateStates, updateDelay, updateDelays, sampled, sample};
+ghost use Rattle.memory.specs.Signals.{given};
+ghost use Rattle.graph_run.specs.Sample.{valueOf, valuesTo, updateState, updateStates, updateDelay, updateDelays, sampled, sample};
 ghost use Rattle.graph_run.specs.Ready.{counts, graph, Lines, Nodes, Updates, Ready};
 
 // A computing node's value from the values before it: the operands are fetched in the arm, which is what makes it fast.

@@ -5,19 +5,9 @@ ghost use Prim.Native.Nat.{_<_};
 ghost use lib.ListN.{length};
 ghost use Rattle.memory.specs.Lines.{memories};
 ghost use Rattle.memory.specs.Fit.{lineBases};
-ghost use Rattle.graph_run.specs.Run.{networkWord, signals, rendered, samplesTo};
+ghost use Rattle.memory.specs.Signals.{signals, rendered};
+ghost use Rattle.graph_run.specs.Run.{samplesTo};
 ghost use Rattle.graph_run.specs.Ready.{graph, Ready, Lent};
-
-// With the flag clear no network word is looked at.
-fn network_word(flag: u32, network: &[u32], t: usize) -> u32
-    requires { ⌜ ((flag ≡ 0 → ⊥) → t < length (now network)) ⌝ }
-    ensures { λ r. ⌜ r ≡ networkWord flag (now (network .entry)) t ⌝ }
-{
-    if flag == 0 {
-        return 0;
-    }
-    network[t]
-}
 
 // An output word for each input word. The nodes, the updates of states and the stores of delays are those of the expanded block, as many words each as it has;
 // so are the values, which are only needed within a sample.
@@ -44,7 +34,7 @@ pub fn samples(
     let count = input.len();
     let mut t: usize = 0;
     while t < count {
-        let sent = network_word(flag, network, t);
+        let sent = memory::signals::network_word(flag, network, t);
         let word = sample::sample(
             nodes,
             result,

@@ -5,6 +5,7 @@ use answers::Verdict;
 use block::Header;
 
 pub mod lines;
+pub mod signals;
 pub mod sizes;
 
 ghost use mathlib.Core.Path.{_≡_};

@@ -14,12 +14,11 @@ use Rattle.answers.specs.declared.Verdict.the-variants.{Valid, Refused}
 use Rattle.answers.specs.declared.Refusal.{Refusal}
 use Rattle.answers.specs.Numbers.{Answer, accepted, refused, refusal, answerOf}
 use Rattle.answers.specs.Order.{_⨾_, refuse}
-use Rattle.answers.specs.OrderLaws.{then-accepted, refuse-accepted, then-pass, refuse-stop, refuse-pass, refuse-on, refuse-off}
+use Rattle.answers.specs.OrderLaws.{then-accepted, refuse-accepted, then-pass, refuse-stop, refuse-pass, refuse-on, refuse-off, hand-on, go-on}
 use Rattle.block.specs.Block.{Block, parameterCount, stateCount, delayCount}
 use Rattle.block.specs.Validation.{expandedLength, validation}
 use Rattle.block.specs.Valid as Valids
 use Rattle.block.specs.Valid.{valid}
-use Rattle.block.specs.Parts.{hand-on, go-on}
 use Rattle.expand.specs.declared.Expanded.{Expanded}
 use Rattle.expand.specs.Expansion as E
 use Rattle.expand.specs.Expansion.{expansion}
@@ -31,7 +30,7 @@ use Rattle.kernel.specs.Lists.{sizes, phaseMayRun, listMayRun, Declared}
 use Rattle.memory.specs.Fit.{lineLengths}
 use Rattle.memory.specs.Sizes.{runFits}
 use Rattle.memory.specs.SizeLaws.{Fitting, fitting, small, fit, graph-lengths}
-use Rattle.graph_run.specs.Run.{Signals, Rendered}
+use Rattle.memory.specs.Signals.{Signals, Rendered}
 use Rattle.step_run.specs.declared.Done.{Done}
 use Rattle.step_run.specs.declared.Answer.the-variants as Answers
 use Rattle.step_run.specs.Budget.{samplesDone}

@@ -16,7 +16,7 @@ use Rattle.kernel.specs.declared.InstructionWords.the-variants as InstructionWo
 use Rattle.kernel.specs.Steps.{stepAt}
 use Rattle.kernel.specs.Instructions.{instructionAt}
 use Rattle.memory.specs.Lines.{Memories, readDelay, storeDelay, storeState}
-use Rattle.graph_run.specs.Sample.{Given}
+use Rattle.memory.specs.Signals.{Given}
 
 -- registers, control slots, spill slots, the memories, this sample's output word, and how many steps have been executed
 pub record Machine : Type 0 where

@@ -13,8 +13,7 @@ use Rattle.kernel.specs.declared.Kernel.{Kernel}
 use Rattle.kernel.specs.Lists.{sizes, listMayRun}
 use Rattle.memory.specs.Lines.{Memories}
 use Rattle.memory.specs.Sizes.{runFits}
-use Rattle.graph_run.specs.Sample.{given}
-use Rattle.graph_run.specs.Run.{Signals, Rendered, rendered, givenBy}
+use Rattle.memory.specs.Signals.{given, Signals, Rendered, rendered, givenBy}
 use Rattle.step_run.specs.declared.Done.{Done}
 use Rattle.step_run.specs.declared.Answer.{Answer}
 use Rattle.step_run.specs.declared.Answer.the-variants.{Accepted, Refused}

@@ -14,8 +14,7 @@ use Rattle.kernel.specs.declared.Phase.the-variants.{Control, Sample}
 use Rattle.kernel.specs.Lists.{Sizes, sizes, phaseMayRun, listMayRun}
 use Rattle.memory.specs.Lines.{Memories, memories}
 use Rattle.memory.specs.Fit.{Fit, lineLengths, lineBases}
-use Rattle.graph_run.specs.Sample.{given}
-use Rattle.graph_run.specs.Run.{networkWord, givenBy, rendered}
+use Rattle.memory.specs.Signals.{given, networkWord, givenBy, rendered}
 use Rattle.step_run.specs.Machine.{Machine, machine, stepsTo, withOutput}
 use Rattle.step_run.specs.Run.{Setup, programOf, noOutput, cleared, controlDone, sampleDone, Running, running, emit, samplesTo, runFor, Tables, tables, tablesOf}
 use Rattle.step_run.specs.Ready.{Ready, Listed, Playable, Lengths, lengthsOf}

@@ -25,7 +25,7 @@ use Rattle.kernel.specs.Steps.{allowedIn}
 use Rattle.kernel.specs.Instructions.{instructionAt}
 use Rattle.kernel.specs.Lists.{Sizes, sizes, sourceInside, indexInside, stepMayRun}
 use Rattle.memory.specs.Lines.{Memories, memories, storeDelay, storeState}
-use Rattle.graph_run.specs.Sample.{Given}
+use Rattle.memory.specs.Signals.{Given}
 use Rattle.step_run.specs.Machine.{machine, Program, register, execute, executeWords, loaded, actWords}
 use Rattle.step_run.specs.StepLaws.{may-allowed, may-inside}
 use Rattle.step_run.specs.Ready.{Slotted, MayRun, slotTable, slotCount, Slots, slots, slotStored}

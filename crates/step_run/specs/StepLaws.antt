@@ -21,7 +21,7 @@ use Rattle.kernel.specs.Lists.{Sizes, sizes, indexInside, computesFormed, stepM
 use Rattle.memory.specs.Lines.{memories, storeDelay, storeState}
 use Rattle.memory.specs.Fit.{Fit, lineLengths}
 use Rattle.memory.specs.LineLaws.{fit-store, fit-state}
-use Rattle.graph_run.specs.Sample.{Given}
+use Rattle.memory.specs.Signals.{Given}
 use Rattle.step_run.specs.Machine.{Machine, Program, act, actWords, stepsTo}
 use Rattle.step_run.specs.Ready.{Ready, MayRun, Listed, Lengths, lengthsOf, counting}
 

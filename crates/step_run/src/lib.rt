@@ -18,7 +18,7 @@ ghost use Prim.Native.Nat.{_≤_};
 ghost use Rattle.answers.specs.Numbers as Numbers;
 ghost use Rattle.block.specs.Block.{block};
 ghost use Rattle.memory.specs.Lines.{memories};
-ghost use Rattle.graph_run.specs.Run.{signals, rendered};
+ghost use Rattle.memory.specs.Signals.{signals, rendered};
 ghost use Rattle.step_run.specs.Run.{codeOf, tables, outcome, answerOf, shorter, runJudged, runCall};
 
 // What an accepted call tells: how many samples it did and how many steps that took.

@@ -10,7 +10,7 @@ ghost use lib.ListN.{length};
 ghost use Rattle.kernel.specs.declared.Phase.the-variants.{Control, Sample};
 ghost use Rattle.memory.specs.Lines.{memories};
 ghost use Rattle.memory.specs.Fit.{lineLengths};
-ghost use Rattle.graph_run.specs.Run.{networkWord, signals, rendered};
+ghost use Rattle.memory.specs.Signals.{signals, rendered};
 ghost use Rattle.step_run.specs.Machine.{machine, withOutput};
 ghost use Rattle.step_run.specs.Run.{codeOf, setup, cleared, controlDone, sampleDone, running, emit, samplesTo, runFor, tables, tablesOf};
 ghost use Rattle.step_run.specs.Ready.{Ready, Listed, Heard, Sounding, Playable};
@@ -18,17 +18,6 @@ ghost use Rattle.step_run.specs.SampleLaws.{hushed};
 
 // "A sample with no output store writes 0x7fc00000."
 const NO_OUTPUT: u32 = 0x7fc0_0000;
-
-// With the flag clear no network word is looked at.
-fn network_word(flag: u32, network: &[u32], t: usize) -> u32
-    requires { ⌜ ((flag ≡ 0 → ⊥) → t < length (now network)) ⌝ }
-    ensures { λ r. ⌜ r ≡ networkWord flag (now (network .entry)) t ⌝ }
-{
-    if flag == 0 {
-        return 0;
-    }
-    network[t]
-}
 
 // Sample t: its word is what the last output store leaves.
 fn sample(
@@ -56,7 +45,7 @@ fn sample(
     let mut word: u32 = NO_OUTPUT;
     let first = lines::place(kernel.control);
     let count = lines::place(kernel.sample);
-    let heard = network_word(flag, network, t);
+    let heard = memory::signals::network_word(flag, network, t);
     let next = steps::run_steps(
         registers,
         first,

@@ -15,7 +15,7 @@ ghost use Rattle.kernel.specs.Steps.{stepOf};
 ghost use Rattle.kernel.specs.Lists.{sizes, sourceInside};
 ghost use Rattle.memory.specs.Lines.{memories};
 ghost use Rattle.memory.specs.Fit.{lineLengths};
-ghost use Rattle.graph_run.specs.Sample.{given};
+ghost use Rattle.memory.specs.Signals.{given};
 ghost use Rattle.step_run.specs.Machine.{machine, program, loaded, actWords, stepsTo};
 ghost use Rattle.step_run.specs.Ready.{Lines, Slotted, Ready, MayRun, Listed, slotTable, slotCount, slots, slotStored};
 

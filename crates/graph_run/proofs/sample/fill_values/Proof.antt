@@ -1,7 +1,8 @@
 -- `fill_values`: before turn k the first k words are the values of the first k nodes. Assumes nothing.
 use mathlib.Core.Path.{sym}
 use lib.Seq.{length-take-le}
-use Rattle.graph_run.specs.Sample.{given, valuesTo}
+use Rattle.memory.specs.Signals.{given}
+use Rattle.graph_run.specs.Sample.{valuesTo}
 use Rattle.graph_run.specs.SampleLaws.{values-start, values-next, values-end}
 use Rattle.memory.specs.Lines.{memories}
 use Rattle.memory.specs.Fit.{lineLengths}

@@ -1,6 +1,6 @@
 -- `samples`: before turn t the first t samples are rendered and all is ready for the next. Assumes nothing.
 use Rattle.graph_run.specs.Ready.{graph}
-use Rattle.graph_run.specs.Run.{signals, rendered}
+use Rattle.memory.specs.Signals.{signals, rendered}
 use Rattle.graph_run.specs.RunLaws.{Going, going-start, going-next, going-end}
 use Rattle.memory.specs.Lines.{memories}
 use mathlib.Core.Path.{_≡_, refl, _∙_}

@@ -1,7 +1,7 @@
 -- `play`: the samples begin where the control steps end, with tables as long as before (`play-ran` of specs/SampleLaws). Assumes nothing.
 use mathlib.Core.Path.{refl}
 use Rattle.memory.specs.Fit.{lineLengths}
-use Rattle.graph_run.specs.Run.{signals}
+use Rattle.memory.specs.Signals.{signals}
 use Rattle.step_run.specs.Run.{setup, codeOf}
 use Rattle.step_run.specs.SampleLaws.{play-ready, play-listed, play-ran}
 use borrow.Author.Needs.{needs}

@@ -4,7 +4,7 @@ use Prim.Native.Nat.{ℕ, _+_, _-_, _*_, _≤_, _<_}
 use native.Mathlib.Omega.{arith}
 use Rattle.memory.specs.Lines.{memories}
 use Rattle.memory.specs.Fit.{lineLengths}
-use Rattle.graph_run.specs.Run.{signals}
+use Rattle.memory.specs.Signals.{signals}
 use Rattle.step_run.specs.Machine.{machine}
 use Rattle.step_run.specs.Run.{setup, codeOf, running}
 use Rattle.step_run.specs.Ready.{Lengths}

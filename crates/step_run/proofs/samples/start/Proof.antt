@@ -1,6 +1,6 @@
 -- `start`: the control steps run from cleared registers and slots (`start-ran` of specs/SampleLaws). Assumes nothing.
 use lib.ListN.{length}
-use Rattle.graph_run.specs.Run.{signals}
+use Rattle.memory.specs.Signals.{signals}
 use Rattle.step_run.specs.Run.{setup}
 use Rattle.step_run.specs.SampleLaws.{ready-cleared, start-ran}
 use borrow.Author.Needs.{needs}

@@ -5,7 +5,7 @@ use native.Mathlib.Omega.{arith}
 use lib.ListN.{length}
 use Rattle.memory.specs.Lines.{memories}
 use Rattle.memory.specs.Fit.{lineLengths}
-use Rattle.graph_run.specs.Sample.{given}
+use Rattle.memory.specs.Signals.{given}
 use Rattle.step_run.specs.Machine.{machine, program}
 use Rattle.step_run.specs.Ready.{Lengths}
 use Rattle.step_run.specs.StepLaws.{Going, going-start, going-ready, going-may, going-turn}

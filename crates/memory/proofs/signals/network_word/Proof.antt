@@ -1,9 +1,9 @@
--- `network_word`: the flag decides. Assumes nothing.
-use Rattle.graph_run.specs.Run.{networkWord}
-use borrow.Author.Tests.{eq-eqb, ne-eqb}
+-- `network_word`: the word, or 0 where the flag is clear. Assumes nothing.
 use native.Mathlib.Omega.{arith}
-use Rattle.graph_run.proofs.samples.network_word.Statement.{statement}
-use Rattle.graph_run.proofs.samples.network_word.Tie as tie
+use borrow.Author.Tests.{eq-eqb, ne-eqb}
+use Rattle.memory.specs.Signals.{networkWord}
+use Rattle.memory.proofs.signals.network_word.Statement.{statement}
+use Rattle.memory.proofs.signals.network_word.Tie as tie
 
 returns : tie.Need-returns
 unfolding networkWord
@@ -13,7 +13,7 @@ mul-result : tie.Need-mul-result
 mul-result c = omega (arith, c .before .pre (c .if1 .left))
 
 shared-slice-read-result : tie.Need-shared-slice-read-result
-shared-slice-read-result c = omega (arith, c .before .before .pre (c .before .if1 .left))
+shared-slice-read-result c = c .before .before .pre (c .before .if1 .left)
 
 returns-2 : tie.Need-returns-2
 unfolding networkWord
