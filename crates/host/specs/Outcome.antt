@@ -7,7 +7,7 @@ use Rattle.answers.specs.declared.Verdict.the-variants.{Valid, Refused}
 use Rattle.kernel.specs.declared.InstructionWords.{InstructionWords}
 use Rattle.kernel.specs.declared.InstructionWords.the-variants.{Formed, Malformed}
 use Rattle.kernel.specs.Instructions.{instructionOf}
-use Rattle.step_run.specs.Machine.{execute}
+use Rattle.machine.specs.Machine.{execute}
 use Rattle.host.specs.declared.Outcome.{Outcome}
 
 -- an answer and sixteen words

@@ -35,7 +35,8 @@ use Rattle.step_run.specs.declared.Done.{Done}
 use Rattle.step_run.specs.declared.Answer.the-variants as Answers
 use Rattle.step_run.specs.Budget.{samplesDone}
 use Rattle.step_run.specs.BudgetLaws.{done-inputs, doneOf}
-use Rattle.step_run.specs.Ready.{Listed, Playable}
+use Rattle.machine.specs.Ready.{Listed}
+use Rattle.step_run.specs.Ready.{Playable}
 use Rattle.step_run.specs.SampleLaws.{spent-is}
 use Rattle.step_run.specs.Run as Run
 use Rattle.step_run.specs.Run.{Code, setup, setupOf, runFor, stepsSpent, shorter, tooShort, Tables, tables, tablesOf, expansionAfter, tablesAfter, outcome, runJudged, runAnswer, runAfter, runCall}

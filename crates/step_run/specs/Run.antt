@@ -17,7 +17,7 @@ use Rattle.memory.specs.Signals.{given, Signals, Rendered, rendered, givenBy}
 use Rattle.step_run.specs.declared.Done.{Done}
 use Rattle.step_run.specs.declared.Answer.{Answer}
 use Rattle.step_run.specs.declared.Answer.the-variants.{Accepted, Refused}
-use Rattle.step_run.specs.Machine.{Machine, machine, Program, program, stepsTo, withOutput}
+use Rattle.machine.specs.Machine.{Machine, machine, Program, program, stepsTo, withOutput}
 use Rattle.step_run.specs.Budget.{samplesDone}
 
 -- a kernel with its tables

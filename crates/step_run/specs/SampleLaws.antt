@@ -15,10 +15,11 @@ use Rattle.kernel.specs.Lists.{Sizes, sizes, phaseMayRun, listMayRun}
 use Rattle.memory.specs.Lines.{Memories, memories}
 use Rattle.memory.specs.Fit.{Fit, lineLengths, lineBases}
 use Rattle.memory.specs.Signals.{given, networkWord, givenBy, rendered}
-use Rattle.step_run.specs.Machine.{Machine, machine, stepsTo, withOutput}
+use Rattle.machine.specs.Machine.{Machine, machine, stepsTo, withOutput}
 use Rattle.step_run.specs.Run.{Setup, programOf, noOutput, cleared, controlDone, sampleDone, Running, running, emit, samplesTo, runFor, Tables, tables, tablesOf}
-use Rattle.step_run.specs.Ready.{Ready, Listed, Playable, Lengths, lengthsOf}
-use Rattle.step_run.specs.StepLaws.{steps-executed, steps-kept, steps-fit, ready-kept}
+use Rattle.machine.specs.Ready.{Ready, Listed, Lengths, lengthsOf}
+use Rattle.step_run.specs.Ready.{Playable}
+use Rattle.machine.specs.StepLaws.{steps-executed, steps-kept, steps-fit, ready-kept}
 
 -- ---- between samples the output word is of no account: the next sample begins without one
 abbrev pub silent : Machine → ℕ → Machine

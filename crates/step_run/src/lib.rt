@@ -1,8 +1,6 @@
 // The step run: the engine of the unit, which executes a kernel's steps on sixteen registers (document 01, module 6).
 mod budget;
-pub mod registers;
 mod samples;
-mod steps;
 
 use answers::Refusal;
 use answers::Verdict;

@@ -1,7 +1,7 @@
 // The samples of a call: the control steps once, then the sample steps for each sample.
-use crate::steps;
 use kernel::Kernel;
 use kernel::Phase;
+use machine::steps;
 use memory::lines;
 ghost use mathlib.Core.Path.{_≡_};
 ghost use mathlib.Core.List.{List, []};
@@ -11,9 +11,10 @@ ghost use Rattle.kernel.specs.declared.Phase.the-variants.{Control, Sample};
 ghost use Rattle.memory.specs.Lines.{memories};
 ghost use Rattle.memory.specs.Fit.{lineLengths};
 ghost use Rattle.memory.specs.Signals.{signals, rendered};
-ghost use Rattle.step_run.specs.Machine.{machine, withOutput};
+ghost use Rattle.machine.specs.Machine.{machine, withOutput};
 ghost use Rattle.step_run.specs.Run.{codeOf, setup, cleared, controlDone, sampleDone, running, emit, samplesTo, runFor, tables, tablesOf};
-ghost use Rattle.step_run.specs.Ready.{Ready, Listed, Heard, Sounding, Playable};
+ghost use Rattle.machine.specs.Ready.{Ready, Listed};
+ghost use Rattle.step_run.specs.Ready.{Heard, Sounding, Playable};
 ghost use Rattle.step_run.specs.SampleLaws.{hushed};
 
 // "A sample with no output store writes 0x7fc00000."

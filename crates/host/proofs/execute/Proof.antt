@@ -1,7 +1,7 @@
 -- `execute`: the result is put at the destination. Assumes nothing.
 use mathlib.Core.Path.{_∙_}
 use borrow.Author.Needs.{needs}
-use Rattle.step_run.specs.Machine.{execute}
+use Rattle.machine.specs.Machine.{execute}
 use Rattle.host.proofs.execute.Statement.{statement}
 use Rattle.host.proofs.execute.Tie as tie
 

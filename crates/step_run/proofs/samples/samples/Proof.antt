@@ -5,9 +5,9 @@ use native.Mathlib.Omega.{arith}
 use Rattle.memory.specs.Lines.{memories}
 use Rattle.memory.specs.Fit.{lineLengths}
 use Rattle.memory.specs.Signals.{signals}
-use Rattle.step_run.specs.Machine.{machine}
+use Rattle.machine.specs.Machine.{machine}
 use Rattle.step_run.specs.Run.{setup, codeOf, running}
-use Rattle.step_run.specs.Ready.{Lengths}
+use Rattle.machine.specs.Ready.{Lengths}
 use Rattle.step_run.specs.SampleLaws.{Playing, playing-start, playing-ready, playing-listed, playing-turn}
 use Rattle.step_run.proofs.samples.samples.Statement.{statement}
 use Rattle.step_run.proofs.samples.samples.Tie as tie
