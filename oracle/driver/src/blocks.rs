@@ -11,9 +11,9 @@ use crate::shrink::{smaller_blocks, smallest};
 
 /// A number of document 01's table, 0 for valid, and for 7 and 9 to 12 the first bad record's index.
 #[derive(Debug, Clone, Copy, PartialEq, Eq)]
-struct Verdict {
-    number: u32,
-    index: Option<u32>,
+pub struct Verdict {
+    pub number: u32,
+    pub index: Option<u32>,
 }
 
 impl Verdict {
@@ -92,11 +92,23 @@ pub enum Question {
     },
 }
 
-/// One question about one block.
+/// One question about one block, and the expansion table that is lent.
 pub struct Case {
     question: Question,
-    block: Tables,
-    expansion: Vec<u32>,
+    pub block: Tables,
+    pub expansion: Vec<u32>,
+}
+
+/// What the Rust answers: its verdict, the two lent answer words, and the expansion table afterwards.
+pub struct Expected {
+    pub verdict: Verdict,
+    pub said: [u32; 2],
+    pub expansion: Vec<u32>,
+}
+
+/// How many words the block's expansion has; those of the largest where it would be too large.
+pub fn needed(block: &Tables) -> usize {
+    3 * block.nodes.chunks(3).map(|node| expanded_length(node[0])).sum::<usize>().min(MOST_NODES)
 }
 
 /// What the words of an answer and of an expansion are before the call.
@@ -104,10 +116,9 @@ const LENT: u32 = 0xa5a5_0000;
 
 impl Case {
     pub fn new(question: Question, block: Tables) -> Self {
-        let needed = 3 * block.nodes.chunks(3).map(|node| expanded_length(node[0])).sum::<usize>().min(MOST_NODES);
         let length = match question {
             Question::Validate => 0,
-            Question::Expand { spare } => (needed as i64 + spare).max(0) as u32,
+            Question::Expand { spare } => (needed(&block) as i64 + spare).max(0) as u32,
         };
         Self { question, block, expansion: (0..length).map(|at| LENT + at).collect() }
     }
@@ -128,8 +139,7 @@ impl Case {
         Call { function, scalars, slices, written }
     }
 
-    /// Our answer against the Rust's, which is given back. Every lent word is compared.
-    fn check(&self, answer: &Answer) -> Result<Verdict, String> {
+    pub fn expected(&self) -> Expected {
         let mut verdict = rust_verdict(&self.block);
         let mut expansion = self.expansion.clone();
         let mut said = [LENT; 2];
@@ -145,6 +155,12 @@ impl Case {
         if verdict.number != 0 {
             said[0] = verdict.index.unwrap_or(0);
         }
+        Expected { verdict, said, expansion }
+    }
+
+    /// Our answer against the Rust's, which is given back. Every lent word is compared.
+    fn check(&self, answer: &Answer) -> Result<Verdict, String> {
+        let Expected { verdict, said, expansion } = self.expected();
         let ours = answer.slices.last().unwrap();
         if answer.result != verdict.number || ours[..] != said {
             return Err(format!("ours {} {ours:x?}, the Rust {} {said:x?}", answer.result, verdict.number));
@@ -241,7 +257,7 @@ fn compare_random(
 }
 
 /// A valid block, or one with one to three faults.
-fn random_block(random: &mut Random, faulty_in: usize) -> Tables {
+pub fn random_block(random: &mut Random, faulty_in: usize) -> Tables {
     let mut block = valid(random);
     if random.one_in(faulty_in) {
         for _ in 0..1 + random.below(3) {
@@ -252,15 +268,15 @@ fn random_block(random: &mut Random, faulty_in: usize) -> Tables {
     block
 }
 
-/// Blocks that document 01 names, with its answers, and forms that the Rust's types cannot hold.
-fn named(ours: &mut Ours, seed: u64, questions: &[Question]) -> Result<(), String> {
+/// Blocks that document 01 names, with its answers.
+pub fn named_blocks() -> Vec<(u32, Tables)> {
     let plain = Tables { version: 1, category: 10, nodes: vec![0, 0, 0], ..Tables::default() };
     let with = |change: &dyn Fn(&mut Tables)| {
         let mut block = plain.clone();
         change(&mut block);
         block
     };
-    let blocks = [
+    vec![
         (0, plain.clone()),
         (8, with(&|block| block.nodes.clear())),
         (0, tanh_block(1820, 16)),
@@ -277,9 +293,13 @@ fn named(ours: &mut Ours, seed: u64, questions: &[Question]) -> Result<(), Strin
         (1, with(&|block| block.parameters.push(0))),
         (1, with(&|block| block.states.push(0))),
         (1, with(&|block| block.delays.push(0))),
-    ];
+    ]
+}
+
+/// Blocks that document 01 names, and forms that the Rust's types cannot hold.
+fn named(ours: &mut Ours, seed: u64, questions: &[Question]) -> Result<(), String> {
     let mut counts = Counts::default();
-    for (number, block) in blocks {
+    for (number, block) in named_blocks() {
         for &question in questions {
             let case = Case::new(question, block.clone());
             let verdict = case.check(&ours.call(case.call())).map_err(|_| case.difference(ours))?;

@@ -2,7 +2,7 @@
 //!
 //! driver SUBJECT OURS SEED COUNT   SUBJECT: words, blocks. OURS: the program made of ours/ours.c and the static library
 //! driver bench OURS                times both sides
-//! driver vectors words             prints vectors with the Rust's answers
+//! driver vectors SUBJECT           prints vectors with the Rust's answers
 mod bench;
 mod blocks;
 mod generate;
@@ -30,7 +30,8 @@ fn main() {
         }
         ["bench", program] => bench::run(&mut Ours::start(program)),
         ["vectors", "words"] => print!("{}", vectors::words()),
-        _ => panic!("usage: driver words|blocks OURS SEED COUNT, driver bench OURS, driver vectors words"),
+        ["vectors", "blocks"] => print!("{}", vectors::blocks()),
+        _ => panic!("usage: driver words|blocks OURS SEED COUNT, driver bench OURS, driver vectors words|blocks"),
     }
 }
 
