@@ -51,6 +51,47 @@ uint32_t lichenstitch_expand(uint32_t version, uint32_t category, uint32_t chann
                              size_t delays_length, const uint32_t *nodes, size_t nodes_length, uint32_t *expansion,
                              size_t expansion_length, uint32_t *answer, size_t answer_length);
 
+// What a block does. It keeps its memories in tables that the caller lends, for S states and D delays:
+//   settings   a word for each parameter: its value
+//   held       S words: the states
+//   area       the cells of all delay lines, one line behind the other in table order: as many words as the lengths together
+//   cursors    D words: each line's cursor
+// 16 is answered where one of them has another size. A refusal changes none of them; answer[0] is as above.
+
+// Sets parameter `index` to `value`. Refused: 17 an index past the parameters, 18 a value that is not finite or outside min..max.
+uint32_t lichenstitch_set(uint32_t version, uint32_t category, uint32_t channels, uint32_t network, uint32_t output,
+                          const uint32_t *parameters, size_t parameters_length, const uint32_t *states,
+                          size_t states_length, const uint32_t *delays, size_t delays_length, const uint32_t *nodes,
+                          size_t nodes_length, uint32_t index, uint32_t value, uint32_t *settings,
+                          size_t settings_length, uint32_t *answer, size_t answer_length);
+
+// Initial states, zero cells, zero cursors, whatever stood there.
+uint32_t lichenstitch_reset(uint32_t version, uint32_t category, uint32_t channels, uint32_t network, uint32_t output,
+                            const uint32_t *parameters, size_t parameters_length, const uint32_t *states,
+                            size_t states_length, const uint32_t *delays, size_t delays_length, const uint32_t *nodes,
+                            size_t nodes_length, uint32_t *held, size_t held_length, uint32_t *area,
+                            size_t area_length, uint32_t *cursors, size_t cursors_length, uint32_t *answer,
+                            size_t answer_length);
+
+// The graph run, the preview: an output word for each input word. `flag` and `last` are the header's network flag and output
+// node. For N expanded nodes (lichenstitch_expand counts them) the caller lends:
+//   input      the samples; output as many words
+//   network    with the flag set a word for each sample, else it is not read
+//   expansion  3N words or more: the expanded nodes are written to its first 3N
+//   values     N words or more, left as zeros
+// Refused: 13 a short expansion or values table, 16 a size as above, lengths of input, output and (flag set) network that differ,
+// or a cursor not below its line's length. answer is left as it was where the run is accepted.
+uint32_t lichenstitch_graph_run(uint32_t version, uint32_t category, uint32_t channels, uint32_t flag, uint32_t last,
+                                const uint32_t *parameters, size_t parameters_length, const uint32_t *states,
+                                size_t states_length, const uint32_t *delays, size_t delays_length,
+                                const uint32_t *nodes, size_t nodes_length, const uint32_t *settings,
+                                size_t settings_length, const uint32_t *input, size_t input_length,
+                                const uint32_t *network, size_t network_length, uint32_t *expansion,
+                                size_t expansion_length, uint32_t *values, size_t values_length, uint32_t *held,
+                                size_t held_length, uint32_t *area, size_t area_length, uint32_t *cursors,
+                                size_t cursors_length, uint32_t *output, size_t output_length, uint32_t *answer,
+                                size_t answer_length);
+
 #ifdef __cplusplus
 }
 #endif

@@ -1,2 +1,3 @@
 -- How answers cross to C.
 pub mod Crossing
+pub mod Runs
