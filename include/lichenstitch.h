@@ -92,6 +92,30 @@ uint32_t lichenstitch_graph_run(uint32_t version, uint32_t category, uint32_t ch
                                 size_t cursors_length, uint32_t *output, size_t output_length, uint32_t *answer,
                                 size_t answer_length);
 
+// The step run, what the floor unit executes: the steps of a kernel, as far as the budget goes. A kernel is five counts
+// (control steps, sample steps, instructions, control slots, spill slots), a step table of two words a step, control then
+// sample, and an instruction table of two words each. The caller lends, besides what the graph run takes (no values table):
+//   registers  16 words or more: the sixteen registers are the first of them, in and out
+//   control    a word or more for each control slot; spills for each spill slot
+// Accepted: answer[0] is the number of samples done, the largest n from 1 to the input's length with control steps +
+// n * sample steps within the budget, else 0; answer[1] the steps spent, that sum or 0. The output past n stays. With n = 0
+// only the expansion is written; else registers, control and spills start as zeros, the whole tables.
+// Refused: 13 a table shorter than its count, 15 a list that may not run, 16 as for the graph run.
+uint32_t lichenstitch_step_run(uint32_t version, uint32_t category, uint32_t channels, uint32_t flag, uint32_t last,
+                               const uint32_t *parameters, size_t parameters_length, const uint32_t *states,
+                               size_t states_length, const uint32_t *delays, size_t delays_length,
+                               const uint32_t *nodes, size_t nodes_length, uint32_t control_steps,
+                               uint32_t sample_steps, uint32_t instruction_count, uint32_t control_slots,
+                               uint32_t spill_slots, const uint32_t *steps, size_t steps_length,
+                               const uint32_t *instructions, size_t instructions_length, const uint32_t *settings,
+                               size_t settings_length, const uint32_t *input, size_t input_length,
+                               const uint32_t *network, size_t network_length, uint32_t budget, uint32_t *registers,
+                               size_t registers_length, uint32_t *expansion, size_t expansion_length,
+                               uint32_t *control, size_t control_length, uint32_t *spills, size_t spills_length,
+                               uint32_t *held, size_t held_length, uint32_t *area, size_t area_length,
+                               uint32_t *cursors, size_t cursors_length, uint32_t *output, size_t output_length,
+                               uint32_t *answer, size_t answer_length);
+
 #ifdef __cplusplus
 }
 #endif

@@ -17,7 +17,7 @@ struct timespec {
 };
 int clock_gettime(int clock, struct timespec *now);
 
-enum { BUFFER = 1 << 20, ROOM = 1 << 25, SCALARS = 32, SLICES = 16 };
+enum { BUFFER = 1 << 20, ROOM = 1 << 25, SCALARS = 32, SLICES = 24 };
 
 static unsigned char input[BUFFER], output[BUFFER];
 static size_t input_at, input_end, output_end;
@@ -70,6 +70,7 @@ static size_t length[SLICES];
 
 #define HEADER scalar[0], scalar[1], scalar[2], scalar[3], scalar[4]
 #define TABLE(i) slice[i], length[i]
+#define BLOCK TABLE(0), TABLE(1), TABLE(2), TABLE(3)
 #define EACH(value)                                            \
     for (size_t i = 0; i < length[0]; i++) last[i] = (value); \
     return 0
@@ -90,8 +91,17 @@ static uint32_t call(uint32_t function, uint32_t slices) {
     case 8: EACH(lichenstitch_is_finite(s[0][i]));
     case 9: EACH(lichenstitch_span_is_valid(s[0][i], s[1][i], s[2][i]));
     case 10: EACH(lichenstitch_in_range(s[0][i], s[1][i], s[2][i]));
-    case 11: return lichenstitch_validate(HEADER, TABLE(0), TABLE(1), TABLE(2), TABLE(3), TABLE(4));
-    case 12: return lichenstitch_expand(HEADER, TABLE(0), TABLE(1), TABLE(2), TABLE(3), TABLE(4), TABLE(5));
+    case 11: return lichenstitch_validate(HEADER, BLOCK, TABLE(4));
+    case 12: return lichenstitch_expand(HEADER, BLOCK, TABLE(4), TABLE(5));
+    case 13: return lichenstitch_set(HEADER, BLOCK, scalar[5], scalar[6], TABLE(4), TABLE(5));
+    case 14: return lichenstitch_reset(HEADER, BLOCK, TABLE(4), TABLE(5), TABLE(6), TABLE(7));
+    case 15:
+        return lichenstitch_graph_run(HEADER, BLOCK, TABLE(4), TABLE(5), TABLE(6), TABLE(7), TABLE(8), TABLE(9),
+                                      TABLE(10), TABLE(11), TABLE(12), TABLE(13));
+    case 16:
+        return lichenstitch_step_run(HEADER, BLOCK, scalar[5], scalar[6], scalar[7], scalar[8], scalar[9], TABLE(4),
+                                     TABLE(5), TABLE(6), TABLE(7), TABLE(8), scalar[10], TABLE(9), TABLE(10), TABLE(11),
+                                     TABLE(12), TABLE(13), TABLE(14), TABLE(15), TABLE(16), TABLE(17));
     default: _exit(2);
     }
 }

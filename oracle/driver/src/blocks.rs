@@ -186,7 +186,7 @@ impl Case {
 }
 
 /// A block as words, the way document 01 lays it out.
-struct Words<'a>(&'a Tables);
+pub struct Words<'a>(pub &'a Tables);
 
 impl fmt::Display for Words<'_> {
     fn fmt(&self, f: &mut fmt::Formatter) -> fmt::Result {

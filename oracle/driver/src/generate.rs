@@ -120,7 +120,7 @@ fn node_count(random: &mut Random) -> usize {
     }
 }
 
-fn node(
+pub fn node(
     random: &mut Random,
     block: &Tables,
     index: usize,
@@ -173,12 +173,12 @@ pub fn finite(random: &mut Random) -> u32 {
 }
 
 /// 0 means none, n+1 node n.
-fn update(random: &mut Random, nodes: usize) -> u32 {
+pub fn update(random: &mut Random, nodes: usize) -> u32 {
     if random.one_in(4) { 0 } else { random.below(nodes) as u32 + 1 }
 }
 
 /// Words of a valid parameter.
-fn span(random: &mut Random) -> [u32; 3] {
+pub fn span(random: &mut Random) -> [u32; 3] {
     loop {
         let (a, b) = (f32::from_bits(finite(random)), f32::from_bits(finite(random)));
         let (min, max) = if a < b { (a, b) } else { (b, a) };

@@ -1,13 +1,16 @@
 //! Compares Lichenstitch with the Rust. Run by ../compare and ../vectors.
 //!
-//! driver SUBJECT OURS SEED COUNT   SUBJECT: words, blocks. OURS: the program made of ours/ours.c and the static library
+//! driver SUBJECT OURS SEED COUNT   SUBJECT: words, blocks, runs. OURS: the program made of ours/ours.c and the static library
 //! driver bench OURS                times both sides
 //! driver vectors SUBJECT           prints vectors with the Rust's answers
 mod bench;
 mod blocks;
 mod generate;
 mod ours;
+mod playing;
 mod random;
+mod refusals;
+mod runs;
 mod shrink;
 mod spans;
 mod vectors;
@@ -19,19 +22,20 @@ fn main() {
     let arguments: Vec<String> = std::env::args().skip(1).collect();
     let arguments: Vec<&str> = arguments.iter().map(String::as_str).collect();
     match arguments[..] {
-        [subject @ ("words" | "blocks"), program, seed, count] => {
+        [subject @ ("words" | "blocks" | "runs"), program, seed, count] => {
             let (seed, count) = (number(seed), number(count));
             let mut ours = Ours::start(program);
             let outcome = match subject {
                 "words" => words::compare(&mut ours, seed, count),
-                _ => blocks::compare(&mut ours, seed, count),
+                "blocks" => blocks::compare(&mut ours, seed, count),
+                _ => runs::compare(&mut ours, seed, count),
             };
             report(subject, seed, outcome);
         }
         ["bench", program] => bench::run(&mut Ours::start(program)),
         ["vectors", "words"] => print!("{}", vectors::words()),
         ["vectors", "blocks"] => print!("{}", vectors::blocks()),
-        _ => panic!("usage: driver words|blocks OURS SEED COUNT, driver bench OURS, driver vectors words|blocks"),
+        _ => panic!("usage: driver words|blocks|runs OURS SEED COUNT, driver bench OURS, driver vectors words|blocks"),
     }
 }
 

@@ -19,6 +19,10 @@ pub enum Function {
     InRange,
     Validate,
     Expand,
+    Set,
+    Reset,
+    GraphRun,
+    StepRun,
 }
 
 /// Set in a function's word where ours.c is to time the call.
