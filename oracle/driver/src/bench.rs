@@ -1,27 +1,30 @@
 //! Times of ours and of the Rust on the same blocks in the same run, and their ratio.
+use std::cell::RefCell;
 use std::hint::black_box;
 use std::time::Instant;
 
-use qcdsp::Block;
 use qcdsp::tables::Tables;
+use qcdsp::{Block, Processor};
 
 use crate::blocks::{Case, Question};
 use crate::generate::{plain_block, tanh_block};
-use crate::ours::Ours;
+use crate::ours::{Call, Ours};
+use crate::playing::{Play, start, uniform};
 use crate::random::Random;
+use crate::runs::{self, compiled, processor};
 
 const ROUNDS: usize = 7;
 const ROUND_NANOSECONDS: u64 = 100_000_000;
 
 /// The best of several rounds, taken in turns, so that both sides meet the machine in the same state.
-fn compare(ours: &mut Ours, name: &str, case: &Case, rust: impl Fn()) {
+fn compare<'a>(ours: &mut Ours, name: &str, call: impl Fn() -> Call<'a>, rust: impl Fn()) {
     let repeats = |once: u64| (ROUND_NANOSECONDS / once.max(1)).clamp(1, 1_000_000) as u32;
     let rust_repeats = repeats(time(1, &rust));
-    let ours_repeats = repeats(ours.time(case.call(), 1));
+    let ours_repeats = repeats(ours.time(call(), 1));
     let mut best = [f64::INFINITY; 2];
     for _ in 0..ROUNDS {
         let took = [
-            ours.time(case.call(), ours_repeats) as f64 / f64::from(ours_repeats),
+            ours.time(call(), ours_repeats) as f64 / f64::from(ours_repeats),
             time(rust_repeats, &rust) as f64 / f64::from(rust_repeats),
         ];
         best = [best[0].min(took[0]), best[1].min(took[1])];
@@ -40,13 +43,15 @@ pub fn run(ours: &mut Ours) {
     let rust = |tables: &Tables| tables.block(&[]).expect("a block that the Rust can hold");
     let validate = |ours: &mut Ours, name, tables: Tables| {
         let block: Block = rust(&tables);
-        compare(ours, name, &Case::new(Question::Validate, tables), || {
+        let case = Case::new(Question::Validate, tables);
+        compare(ours, name, || case.call(), || {
             black_box(&block).validate().unwrap();
         });
     };
     let expand = |ours: &mut Ours, name, tables: Tables| {
         let block: Block = rust(&tables);
-        compare(ours, name, &Case::new(Question::Expand { spare: 0 }, tables), || {
+        let case = Case::new(Question::Expand { spare: 0 }, tables);
+        compare(ours, name, || case.call(), || {
             block.validate().unwrap();
             black_box(black_box(&block).expanded());
         });
@@ -61,4 +66,61 @@ pub fn run(ours: &mut Ours) {
         block.version = 2;
         block
     });
+    for sections in [2, 20, 1_000] {
+        engines(ours, filters(sections));
+    }
+}
+
+const SAMPLES: usize = 4_800;
+
+/// One-pole filters one after the other, each a state and five nodes; behind each tenth a delay line of 480 samples. No
+/// value leaves -1..1.
+fn filters(sections: usize) -> Tables {
+    let mut block = Tables { version: 1, category: 10, ..Tables::default() };
+    block.nodes.extend([0, 0, 0, 1, 0x3f00_0000, 0]);
+    let [half, mut last] = [1, 0];
+    let mut push = |node: [u32; 3]| {
+        block.nodes.extend(node);
+        (block.nodes.len() / 3 - 1) as u32
+    };
+    for section in 0..sections as u32 {
+        let held = push([3, section, 0]);
+        let kept = push([7, held, half]);
+        let taken = push([7, last, half]);
+        last = push([5, kept, taken]);
+        block.states.extend([0, last + 1]);
+        if section % 10 == 9 {
+            let heard = push([4, section / 10, 0]);
+            let both = push([5, last, heard]);
+            block.delays.extend([480, last + 1]);
+            last = push([7, both, half]);
+        }
+    }
+    block.output = last;
+    block
+}
+
+/// Both engines on a block, against the Rust's processor, which runs the control steps once for each sample.
+fn engines(ours: &mut Ours, block: Tables) {
+    let random = &mut Random::new(1);
+    let input: Vec<u32> = (0..SAMPLES).map(|_| uniform(random, -1.0, 1.0).to_bits()).collect();
+    let nodes = block.nodes.len() / 3;
+    let memories = start(&block);
+    let play = Play { block, settings: vec![], memories, input, network: vec![], spare: 0, extra: 0 };
+    let heard: Vec<f32> = play.input.iter().map(|&word| f32::from_bits(word)).collect();
+    let run = |processor: Processor| {
+        let both = RefCell::new((processor, vec![0.0f32; SAMPLES]));
+        let heard = heard.clone();
+        move || {
+            let (processor, output) = &mut *both.borrow_mut();
+            processor.process(black_box(&heard), black_box(output)).unwrap();
+        }
+    };
+    let graph = runs::Case::Graph.question(&play).expect("a block that runs");
+    let rust = run(processor(&play, None).expect("a block that runs"));
+    compare(ours, &format!("graph run, {nodes} nodes, {SAMPLES} samples"), || graph.call(), rust);
+    let steps = runs::Case::Steps(u16::MAX).question(&play).expect("a kernel that runs");
+    let kernel = compiled(&play, u16::MAX).expect("a kernel that runs");
+    let rust = run(processor(&play, Some(kernel)).expect("a kernel that runs"));
+    compare(ours, &format!("step run, {nodes} nodes, {SAMPLES} samples"), || steps.call(), rust);
 }

@@ -46,7 +46,7 @@ pub fn start(block: &Tables) -> Memories {
     }
 }
 
-fn uniform(random: &mut Random, low: f32, high: f32) -> f32 {
+pub fn uniform(random: &mut Random, low: f32, high: f32) -> f32 {
     let part = random.word() as f32 / u32::MAX as f32;
     (low + (high - low) * part).clamp(low, high)
 }

@@ -80,7 +80,7 @@ struct Rendered {
     machine: Machine,
 }
 
-fn processor(play: &Play, kernel: Option<Kernel>) -> Option<Processor> {
+pub fn processor(play: &Play, kernel: Option<Kernel>) -> Option<Processor> {
     let block = play.block.block(&play.network)?;
     let mut processor = match kernel {
         Some(kernel) => Processor::lowered(block, kernel),
@@ -116,7 +116,7 @@ pub fn after(play: &Play) -> Option<Memories> {
     Some(rendered(&play, None)?.memories)
 }
 
-fn compiled(play: &Play, mask: u16) -> Result<Kernel, Skipped> {
+pub fn compiled(play: &Play, mask: u16) -> Result<Kernel, Skipped> {
     let block = play.block.block(&play.network).ok_or(Skipped::Invalid)?;
     compile_with(&block, mask).map_err(|error| match error {
         Error::RegisterPressure => Skipped::TooFewRegisters,
