@@ -10,6 +10,7 @@ mod ours;
 mod playing;
 mod random;
 mod refusals;
+mod run_vectors;
 mod runs;
 mod shrink;
 mod spans;
@@ -35,7 +36,8 @@ fn main() {
         ["bench", program] => bench::run(&mut Ours::start(program)),
         ["vectors", "words"] => print!("{}", vectors::words()),
         ["vectors", "blocks"] => print!("{}", vectors::blocks()),
-        _ => panic!("usage: driver words|blocks|runs OURS SEED COUNT, driver bench OURS, driver vectors words|blocks"),
+        ["vectors", "runs"] => print!("{}", run_vectors::runs()),
+        _ => panic!("usage: driver words|blocks|runs OURS SEED COUNT, driver bench OURS, driver vectors words|blocks|runs"),
     }
 }
 
