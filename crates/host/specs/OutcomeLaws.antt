@@ -12,7 +12,8 @@ use Rattle.kernel.specs.declared.Instruction.the-variants.{Immediate, Add, Sub,
 use Rattle.kernel.specs.declared.InstructionWords.the-variants.{Formed, Malformed}
 use Rattle.kernel.specs.Instructions.{instructionOf}
 use Rattle.kernel.specs.RoundTrips.{InRegisters, instruction-registers-small}
-use Rattle.machine.specs.Machine.{destination, result, execute}
+use Rattle.kernel.specs.Instructions.{destination}
+use Rattle.machine.specs.Machine.{result, execute}
 use Rattle.host.specs.Outcome.{outcomeOf, ran, outcome}
 
 pub refused : (words : List ℕ) (word immediate : ℕ) → instructionOf word immediate ≡ Malformed → outcome words word immediate ≡ outcomeOf (Refused BadStepList) words

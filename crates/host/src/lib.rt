@@ -6,7 +6,8 @@ use kernel::InstructionWords;
 use kernel::instructions;
 ghost use mathlib.Core.Path.{_≡_};
 ghost use lib.ListN.{set};
-ghost use Rattle.machine.specs.Machine.{register, result, destination, execute};
+ghost use Rattle.kernel.specs.Instructions.{destination};
+ghost use Rattle.machine.specs.Machine.{register, result, execute};
 ghost use Rattle.host.specs.Outcome.{outcome, outcomeOf};
 
 // "A thin host entry takes them as a struct lent to it."

@@ -36,6 +36,18 @@ instructionImmediate (Neg dst src) = 0
 instructionImmediate (Abs dst src) = 0
 instructionImmediate (IntegerSub dst lhs rhs) = 0
 
+-- the register that an instruction sets
+abbrev pub destination : Instruction → ℕ
+destination (Immediate dst value) = dst
+destination (Add dst lhs rhs) = dst
+destination (Sub dst lhs rhs) = dst
+destination (Mul dst lhs rhs) = dst
+destination (Min dst lhs rhs) = dst
+destination (Max dst lhs rhs) = dst
+destination (Neg dst src) = dst
+destination (Abs dst src) = dst
+destination (IntegerSub dst lhs rhs) = dst
+
 -- an instruction whose unused parts are 0
 abbrev pub formedIf : Bool → Instruction → InstructionWords
 formedIf unusedZero instruction = cond unusedZero (Formed instruction) Malformed

@@ -14,7 +14,7 @@ use Rattle.kernel.specs.declared.Instruction.the-variants.{Immediate, Add, Sub,
 use Rattle.kernel.specs.declared.InstructionWords.{InstructionWords}
 use Rattle.kernel.specs.declared.InstructionWords.the-variants as InstructionWords
 use Rattle.kernel.specs.Steps.{stepAt}
-use Rattle.kernel.specs.Instructions.{instructionAt}
+use Rattle.kernel.specs.Instructions.{destination, instructionAt}
 use Rattle.memory.specs.Lines.{Memories, readDelay, storeDelay, storeState}
 use Rattle.memory.specs.Signals.{Given}
 
@@ -53,17 +53,6 @@ result r (Max dst lhs rhs) = greater (register r lhs) (register r rhs)
 result r (Neg dst src) = negated (register r src)
 result r (Abs dst src) = absolute (register r src)
 result r (IntegerSub dst lhs rhs) = wrappingDifference (register r lhs) (register r rhs)
-
-abbrev pub destination : Instruction → ℕ
-destination (Immediate dst value) = dst
-destination (Add dst lhs rhs) = dst
-destination (Sub dst lhs rhs) = dst
-destination (Mul dst lhs rhs) = dst
-destination (Min dst lhs rhs) = dst
-destination (Max dst lhs rhs) = dst
-destination (Neg dst src) = dst
-destination (Abs dst src) = dst
-destination (IntegerSub dst lhs rhs) = dst
 
 unfoldable pub execute : List ℕ → Instruction → List ℕ
 execute registers i = set registers (destination i) (result registers i)

@@ -5,8 +5,8 @@ ghost use mathlib.Core.Path.{_≡_};
 ghost use mathlib.Core.Bool.{cond};
 ghost use Prim.Native.Nat.{_+_, _*_, _<_};
 ghost use lib.ListN.{length, set};
-ghost use Rattle.kernel.specs.Instructions.{instructionAt};
-ghost use Rattle.machine.specs.Machine.{register, result, destination, execute, executeWords};
+ghost use Rattle.kernel.specs.Instructions.{destination, instructionAt};
+ghost use Rattle.machine.specs.Machine.{register, result, execute, executeWords};
 
 fn pick(at: bool, value: u32, old: u32) -> u32
     ensures { λ r. ⌜ r ≡ cond at value old ⌝ }
