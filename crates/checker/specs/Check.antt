@@ -47,7 +47,7 @@ unfoldable pub checkJudged : Block → Kernel → List ℕ → List ℕ → Tabl
 checkJudged b k steps instructions t =
     validation b
     ⨾ refuse 13
-      (shorter k (expandedLength b) (stateCount b) (delayCount b) (length (t .expansion)) (length steps) (length instructions) (length (t .work)))
+    (shorter k (expandedLength b) (stateCount b) (delayCount b) (length (t .expansion)) (length steps) (length instructions) (length (t .work)))
 
 -- "19 zeroes the checker's work table", and so does passing; both leave the expansion written
 unfoldable pub checkAfter : Answer Unit → Block → Tables → Tables

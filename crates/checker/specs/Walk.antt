@@ -25,7 +25,7 @@ use Rattle.kernel.specs.declared.Kernel.{Kernel}
 use Rattle.kernel.specs.Steps.{stepAt}
 use Rattle.kernel.specs.Instructions.{destination, instructionAt}
 use Rattle.kernel.specs.Lists.{Sizes, sizes, stepMayRun}
-use Rattle.classes.specs.Classes.{find, classes}
+use Rattle.classes.specs.Classes.{classesTo, find}
 
 -- a step list with what it is checked against: the expanded block, the number of its parameters, the mask
 pub record Listing : Type 0 where
@@ -103,9 +103,13 @@ register h r = getD (h .registers) r 0
 
 -- ---- the class, and one, of the word that a step moves; 0 where the step may not move it
 
+-- of the nodes with a code and two keys; 0 where there is none
+abbrev pub classOf : Graph → ℕ → ℕ → ℕ → ℕ
+classOf g c x y = find (g .nodes) (g .count) c x y
+
 -- "a load's source is some node's": the node's code and index
 unfoldable pub fetched : Graph → ℕ → ℕ → ℕ
-fetched g c index = find g c index 0
+fetched g c index = classOf g c index 0
 
 -- ".. and not loaded afterwards"
 unfoldable pub unlessStored : ℕ → ℕ → ℕ
@@ -124,14 +128,14 @@ loadedClass g h (Source.Control slot) = getD (h .control) slot 0
 unfoldable pub resultOfTwo : Graph → ℕ → ℕ → ℕ → ℕ
 resultOfTwo g c zero y = 0
 resultOfTwo g c (suc x) zero = 0
-resultOfTwo g c (suc x) (suc y) = find g c x y
+resultOfTwo g c (suc x) (suc y) = classOf g c x y
 
 unfoldable pub resultOfOne : Graph → ℕ → ℕ → ℕ
 resultOfOne g c zero = 0
-resultOfOne g c (suc x) = find g c x 0
+resultOfOne g c (suc x) = classOf g c x 0
 
 abbrev pub computedClass : Graph → Held → Instruction → ℕ
-computedClass g h (Immediate dst value) = find g 1 value 0
+computedClass g h (Immediate dst value) = classOf g 1 value 0
 computedClass g h (Add dst lhs rhs) = resultOfTwo g 5 (register h lhs) (register h rhs)
 computedClass g h (Sub dst lhs rhs) = resultOfTwo g 6 (register h lhs) (register h rhs)
 computedClass g h (Mul dst lhs rhs) = resultOfTwo g 7 (register h lhs) (register h rhs)
@@ -148,7 +152,7 @@ wordsClass g h InstructionWords.Malformed = 0
 -- what is stored where an update (0, or a node's number and one) asks for that node's class
 unfoldable pub asked : Graph → ℕ → ℕ → ℕ
 asked g zero class = 0
-asked g (suc n) class = cond (eqb class (suc (getD (classes g) n 0))) class 0
+asked g (suc n) class = cond (eqb class (suc (getD (classesTo (g .nodes) (g .count)) n 0))) class 0
 
 abbrev pub movedClass : Graph → List ℕ → Held → Step → ℕ
 movedClass g instructions h (Load source r) = loadedClass g h source

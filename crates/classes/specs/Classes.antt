@@ -8,7 +8,6 @@ use lib.Dec.{ltb, eqb}
 use Rattle.tables.specs.Tests.{_&_}
 use Rattle.block.specs.Block.{code, first, second}
 use Rattle.block.specs.Kinds.{kindOf, operandsOf}
-use Rattle.expand.specs.Graph.{Graph}
 
 -- the place of the first index below n that passes, and one; 0 where none does
 unfoldable pub firstPlace : (ℕ → Bool) → ℕ → ℕ
@@ -49,9 +48,6 @@ classesTo nodes (suc n) =
     let before = classesTo nodes n in
     before ++ (classFrom nodes before n ∷ [])
 
-abbrev pub classes : Graph → List ℕ
-classes g = classesTo (g .nodes) (g .count)
-
--- the class, and one, of the nodes with a code and two keys; 0 where there is no such node
-unfoldable pub find : Graph → ℕ → ℕ → ℕ → ℕ
-find g c x y = firstPlace (hasKeys (g .nodes) (classes g) c x y) (g .count)
+-- the class, and one, of the nodes among the first n that have a code and two keys; 0 where there is no such node
+unfoldable pub find : List ℕ → ℕ → ℕ → ℕ → ℕ → ℕ
+find nodes n c x y = firstPlace (hasKeys nodes (classesTo nodes n) c x y) n
