@@ -10,3 +10,5 @@ pub mod Digits
 pub mod Cells
 -- the index as the code and its callers speak of it
 pub mod Index
+-- how long a walk is
+pub mod Depth
