@@ -12,3 +12,5 @@ pub mod Cells
 pub mod Index
 -- how long a walk is
 pub mod Depth
+-- 01's sentence of one class as a relation
+pub mod OneClass
