@@ -1,0 +1,7 @@
+-- A list that the checker passes runs as the graph does (document 01, demand 3).
+pub mod Codes
+pub mod OneValue
+pub mod Stored
+pub mod Files
+pub mod Passed
+pub mod Steps

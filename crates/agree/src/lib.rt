@@ -1,0 +1,1 @@
+// A step list that the checker passes runs as the block's graph does (document 01, demand 3).
