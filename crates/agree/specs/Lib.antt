@@ -5,3 +5,4 @@ pub mod Stored
 pub mod Files
 pub mod Passed
 pub mod Steps
+pub mod Agree
