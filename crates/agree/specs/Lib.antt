@@ -6,3 +6,5 @@ pub mod Files
 pub mod Passed
 pub mod Steps
 pub mod Agree
+pub mod Marks
+pub mod Filled
