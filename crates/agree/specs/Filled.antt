@@ -191,8 +191,7 @@ pub never-unfilled : (l : Listing) → walkAnswer l ≡ accepted tt
     × ((t i : ℕ) → i < l .kernel .sample
     → wordsSure (sizesOf l) (l .instructions) (marksBeforeSample (codeIn l) t i) (stepAt (l .steps) (l .kernel .control + i)) ≡ true)
 never-unfilled l e =
-    let p = passed l e in
-    (
+    let p = passed l e in (
       λ i h. step-sure l Control _ _ _ _ (rw (zero-add i) at (p .control i h)) (control-marked l p i (omega arith)),
       λ t i h. step-sure l Sample _ _ _ _ (p .sample i h) (sample-marked l p (marksAtSample (codeIn l) t) (samples-marked l p t) i (omega arith) .0),
     )

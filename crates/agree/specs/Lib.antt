@@ -8,3 +8,4 @@ pub mod Steps
 pub mod Agree
 pub mod Marks
 pub mod Filled
+pub mod Calls
