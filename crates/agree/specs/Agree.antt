@@ -42,6 +42,7 @@ use Rattle.agree.specs.OneValue.{valueAt}
 use Rattle.agree.specs.Stored.{Written, written-start, written-end, written-kept, states-stored, linesOf, LinesFit, lines-apart, delays-stored, lines-updated}
 use Rattle.agree.specs.Files.{File, file-empty}
 use Rattle.agree.specs.Passed.{StepPassed, Passed, passed, walk-keeps}
+use Rattle.agree.specs.Phases.{Unstored, unstored-control}
 use Rattle.agree.specs.Steps.{Holds, Stores, programFor, sample-step, control-step}
 
 -- ---- what steps leave alone
@@ -99,29 +100,6 @@ next-machine : (p : Program) (steps : List ℕ) (x : Given) (m : Machine) (from 
 unfolding stepsTo actWords
 next-machine p steps x m from i step e = rw e
 
--- nothing has been stored that a sample stores
-abbrev Unstored : Listing → Held → Type 0
-Unstored l h =
-    (h .statesStored ≡ replicate (length (l .graph .stateUpdates)) 0)
-    × (h .delaysStored ≡ replicate (length (l .graph .delayUpdates)) 0)
-    × (h .outputStored ≡ 0)
-
-unstored-result : (l : Listing) (h : Held) (w : InstructionWords) (class : ℕ) → Unstored l h → Unstored l (withResult h w class)
-unstored-result l h (InstructionWords.Formed i) class u = u
-unstored-result l h InstructionWords.Malformed class u = u
-
--- a control step stores none of it
-unstored-step : (l : Listing) (h : Held) (step : Step) → allowedIn Control step ≡ true → Unstored l h → Unstored l (afterStep l h step)
-unfolding afterStep
-unstored-step l h (Load source r) a u = u
-unstored-step l h (Compute i) a u = unstored-result l h (instructionAt (l .instructions) i) _ u
-unstored-step l h (Spill slot r) a u = u
-unstored-step l h (Reload slot r) a u = u
-unstored-step l h (StoreState state r) a u = true-false (sym a)
-unstored-step l h (StoreDelay delay r) a u = true-false (sym a)
-unstored-step l h (StoreOutput r) a u = true-false (sym a)
-unstored-step l h (StoreControl slot r) a u = u
-
 -- what is stored where nothing is missing
 stored-all : (updates stored : List ℕ) (i : ℕ) → storedIfAsked updates stored i ≡ true → getD stored i 0 ≡ 0 → getD updates i 0 ≡ 0
 unfolding storedIfAsked
@@ -145,7 +123,7 @@ module _ {n : Counts} (l : Listing) (good : GoodGraph n (l .graph)) (lined : len
     control : (audio network : ℕ) (start : Memories) → File (valueAt (l .graph) (given audio network parameters) start) (controlled .control) (m .control)
 
   -- ---- the sample phase
-  module _ (unstored : Unstored l controlled) (audio network : ℕ) (m : Machine) (w : Waiting m) where
+  module _ (audio network : ℕ) (m : Machine) (w : Waiting m) where
     -- what holds before each sample step
     abbrev Going : Held → Machine → Type 0
     Going h k =
@@ -158,18 +136,19 @@ module _ {n : Counts} (l : Listing) (good : GoodGraph n (l .graph)) (lined : len
 
     going-start : Going (entered l controlled) (withOutput m noOutput)
     unfolding entered
-    going-start = (
-      (
-        (file-empty _ 16 (m .registers) (w .registers), w .control audio network (m .memories), file-empty _ (l .kernel .spills) (m .spills) (w .spills)),
-        (
-          rw (unstored .0) (written-start set (l .graph .stateUpdates) _ (m .memories .states)),
-          rw (unstored .1) (written-start (storeDelay (l .graph .delayLengths)) (l .graph .delayUpdates) _ (linesOf (m .memories))),
-          λ z. absurd (z (unstored .2)),
-        ),
-      ),
-      refl,
-      (refl, refl, refl),
-    )
+    going-start =
+        let unstored = unstored-control l p in (
+          (
+            (file-empty _ 16 (m .registers) (w .registers), w .control audio network (m .memories), file-empty _ (l .kernel .spills) (m .spills) (w .spills)),
+            (
+              rw (unstored .0) (written-start set (l .graph .stateUpdates) _ (m .memories .states)),
+              rw (unstored .1) (written-start (storeDelay (l .graph .delayLengths)) (l .graph .delayUpdates) _ (linesOf (m .memories))),
+              λ z. absurd (z (unstored .2)),
+            ),
+          ),
+          refl,
+          (refl, refl, refl),
+        )
 
     going-step : (last : Bool) (h : Held) (k : Machine) (step : Step) → StepPassed l Sample last h step → Going h k
         → Going (afterStep l h step) (counted (act (programFor l) (given audio network parameters) k step))
@@ -227,7 +206,6 @@ module _ {n : Counts} (l : Listing) (good : GoodGraph n (l .graph)) (lined : len
         ((audio network : ℕ) (start : Memories) → Holds (valueAt (l .graph) (given audio network parameters) start) h k)
         × (k .memories ≡ m .memories)
         × Long m k
-        × Unstored l h
 
     preparing-start : Preparing (emptied l) m
     unfolding emptied
@@ -235,16 +213,14 @@ module _ {n : Counts} (l : Listing) (good : GoodGraph n (l .graph)) (lined : len
       λ a b start. (file-empty _ 16 (m .registers) registers, file-empty _ (l .kernel .slots) (m .control) control, file-empty _ (l .kernel .spills) (m .spills) spills),
       refl,
       (refl, refl, refl),
-      (refl, refl, refl),
     )
 
     preparing-step : (last : Bool) (h : Held) (k : Machine) (step : Step) → StepPassed l Control last h step → Preparing h k
         → Preparing (afterStep l h step) (counted (act (programFor l) (given 0 0 parameters) k step))
-    preparing-step last h k step q (a, c, e, u) = (
+    preparing-step last h k step q (a, c, e) = (
       λ x y start. control-step l good (given x y parameters) start parameters refl last h k step q (a x y start),
       memories-same (programFor l) (given 0 0 parameters) k step (q .allowed) ∙ c,
       long-step (programFor l) (given 0 0 parameters) m k step e,
-      unstored-step l h step (q .allowed) u,
     )
 
     abbrev prepared : ℕ → Machine
@@ -258,15 +234,14 @@ module _ {n : Counts} (l : Listing) (good : GoodGraph n (l .graph)) (lined : len
         (λ k step e. next-machine (programFor l) (l .steps) (given 0 0 parameters) m 0 k step e)
         Preparing preparing-step preparing-start i h
 
-    -- it leaves the memories, nothing stored, and the machine waiting for the first sample
+    -- it leaves the memories, and the machine waiting for the first sample
     control-ends : LinesFit (l .graph .delayLengths) (m .memories)
-        → (prepared (l .kernel .control) .memories ≡ m .memories) × Unstored l controlled × Waiting (prepared (l .kernel .control))
+        → (prepared (l .kernel .control) .memories ≡ m .memories) × Waiting (prepared (l .kernel .control))
     control-ends f =
         let at = preparing (l .kernel .control) (omega arith) in
         let long = at .2 in
         let e₁ = long .0 in let e₂ = long .2 in (
           at .1,
-          at .3,
           record { registers = omega arith; spills = omega arith; lines = rw (at .1) f; control = λ a b start. at .0 a b start .1 },
         )
 
@@ -286,18 +261,18 @@ module _ (b : Block) (valid : Valid b) (mask : ℕ) (c : Code) (passes : walkAns
   renderedBy r = rendered (r .output) (r .machine .memories)
 
   -- sample by sample, from a machine that waits
-  samples-agree : (r : Running) → Unstored checked (beforeControl checked (c .kernel .control)) → Waits (r .machine) → (n : ℕ)
+  samples-agree : (r : Running) → Waits (r .machine) → (n : ℕ)
       → (renderedBy (samplesTo (setupOf b c s) r n) ≡ graphSamplesTo (graphOf b) (b .header .network) s (renderedBy r) n) × Waits (samplesTo (setupOf b c s) r n .machine)
   unfolding samplesTo sampleDone graphSamplesTo
-  samples-agree r u w zero = (refl, w)
-  samples-agree r u w (suc t) =
+  samples-agree r w zero = (refl, w)
+  samples-agree r w (suc t) =
       let before = samplesTo (setupOf b c s) r t in
-      let ih = samples-agree r u w t in
+      let ih = samples-agree r w t in
       let x = givenBy (b .header .network) s t in
-      let one = sample-agrees checked (good-graph b valid) (updates-lined b) (passed checked passes) (s .parameters) u (x .audio) (x .network) (before .machine) (ih .1) in (
+      let one = sample-agrees checked (good-graph b valid) (updates-lined b) (passed checked passes) (s .parameters) (x .audio) (x .network) (before .machine) (ih .1) in (
         ap (λ (z : Sampled). rendered (set (before .output) t (z .output)) (z .memories)) one
             ∙ ap (λ (q : Rendered). emit q t (sample (graphOf b) x (q .memories))) (ih .0),
-        sample-waits checked (good-graph b valid) (updates-lined b) (passed checked passes) (s .parameters) u (x .audio) (x .network) (before .machine) (ih .1),
+        sample-waits checked (good-graph b valid) (updates-lined b) (passed checked passes) (s .parameters) (x .audio) (x .network) (before .machine) (ih .1),
       )
 
 -- DEMAND 3. Of a valid block, with a list that the checker passes, the step run of n samples leaves the output words, states, delay area and cursors that the
@@ -316,5 +291,5 @@ agree b valid mask c passes s t slots spills fits n h =
     let first =
     control-ends l (good-graph b valid) (updates-lined b) (passed l passes) (s .parameters) start (omega (arith, zeros-length 16))
     (rw (zeros-length (length (t .control))) slots) (rw (zeros-length (length (t .spills))) spills) lines in
-    samples-agree b valid mask c passes s (running (controlDone (setupOf b c s) start) (t .rendered .output)) (first .1) (first .2) n .0
+    samples-agree b valid mask c passes s (running (controlDone (setupOf b c s) start) (t .rendered .output)) (first .1) n .0
     ∙ ap (λ (m : Memories). graphSamplesTo (graphOf b) (b .header .network) s (rendered (t .rendered .output) m) n) (first .0)

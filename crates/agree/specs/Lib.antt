@@ -4,6 +4,7 @@ pub mod OneValue
 pub mod Stored
 pub mod Files
 pub mod Passed
+pub mod Phases
 pub mod Steps
 pub mod Agree
 pub mod Marks
