@@ -10,3 +10,5 @@ pub mod Agree
 pub mod Marks
 pub mod Filled
 pub mod Calls
+pub mod Checked
+pub mod CheckedLaws
