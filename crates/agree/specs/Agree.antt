@@ -1,21 +1,21 @@
 -- DEMAND 3: a step list that the checker passes renders what the graph does, sample by sample: output words, states, delay area and cursors. Assumes nothing.
-use mathlib.Core.Path.{_≡_, refl, sym, ap, _∙_, subst}
+use mathlib.Core.Path.{_≡_, refl, sym, ap, _∙_}
 use mathlib.Core.Logic.{_⊎_, inl, inr}
 use mathlib.Core.Bool.{Bool, true, false, not}
 use mathlib.Core.List.{List}
-use Prim.Native.Nat.{ℕ, zero, suc, _+_, _≤_, _<_}
+use Prim.Native.Nat.{ℕ, zero, suc, _+_, _≤_}
 use native.Mathlib.Omega.{arith}
-use lib.ListN.{length, getD, set, replicate, length-set}
+use lib.ListN.{length, getD, set, length-set}
 use lib.Dec.{eqb}
 use borrow.Author.Tests.{eqb-true}
 use Rattle.tables.specs.Tests.{true-false, either, differ-of}
 use Rattle.tables.specs.Lists.{list-length}
 use Rattle.tables.specs.Zeros.{zeros-length}
 use Rattle.answers.specs.Numbers.{accepted}
-use Rattle.block.specs.Block.{Block, stateCount, delayCount}
-use Rattle.block.specs.Validation.{Counts, countsOf}
+use Rattle.block.specs.Block.{Block, delayCount}
+use Rattle.block.specs.Validation.{Counts}
 use Rattle.block.specs.Valid.{Valid}
-use Rattle.expand.specs.Graph.{Graph, graphOf}
+use Rattle.expand.specs.Graph.{graphOf}
 use Rattle.expand.specs.GraphLaws.{GoodGraph, good-graph}
 use Rattle.kernel.specs.declared.Step.{Step}
 use Rattle.kernel.specs.declared.Step.the-variants.{Load, Compute, Spill, Reload, StoreState, StoreDelay, StoreOutput, StoreControl}
@@ -26,23 +26,23 @@ use Rattle.kernel.specs.declared.InstructionWords.the-variants as InstructionWo
 use Rattle.kernel.specs.declared.Phase.the-variants.{Control, Sample}
 use Rattle.kernel.specs.Steps.{stepAt, allowedIn}
 use Rattle.kernel.specs.Instructions.{instructionAt}
-use Rattle.memory.specs.Lines.{Memories, memories, storeDelay, storeState}
+use Rattle.memory.specs.Lines.{Memories, memories, storeDelay}
 use Rattle.memory.specs.Sizes.{runFits}
-use Rattle.memory.specs.SizeLaws.{Fitting, fitting, fit, graph-lengths}
+use Rattle.memory.specs.SizeLaws.{fitting, fit, graph-lengths}
 use Rattle.memory.specs.Signals.{Given, given, Signals, givenBy, Rendered, rendered}
 use Rattle.graph_run.specs.Sample.{Sampled, sampled, values, updateStates, updateDelays, updated, sample}
 use Rattle.graph_run.specs.Run.{emit, samplesTo as graphSamplesTo}
 use Rattle.machine.specs.Machine.{Machine, Program, act, actWords, executeWords, execute, counted, stepsTo, withOutput}
-use Rattle.machine.specs.Ready.{Lengths, lengthsOf}
+use Rattle.machine.specs.Ready.{Lengths}
 use Rattle.machine.specs.StepLaws.{act-kept}
-use Rattle.step_run.specs.Run.{Code, Setup, setupOf, noOutput, cleared, controlDone, sampleDone, Running, running, samplesTo, Tables, runFor}
-use Rattle.checker.specs.Walk.{Listing, Held, withResult, afterStep, emptied, entered, walked, beforeControl, beforeSample, storedIfAsked, walkAnswer}
+use Rattle.step_run.specs.Run.{Code, setupOf, noOutput, cleared, controlDone, sampleDone, Running, running, samplesTo, Tables, runFor}
+use Rattle.checker.specs.Walk.{Listing, Held, afterStep, emptied, entered, beforeControl, beforeSample, storedIfAsked, walkAnswer}
 use Rattle.checker.specs.Check.{listingOf}
 use Rattle.agree.specs.OneValue.{valueAt}
-use Rattle.agree.specs.Stored.{Written, written-start, written-end, written-kept, states-stored, linesOf, LinesFit, lines-apart, delays-stored, lines-updated}
+use Rattle.agree.specs.Stored.{written-start, written-end, written-kept, states-stored, linesOf, LinesFit, lines-apart, delays-stored, lines-updated}
 use Rattle.agree.specs.Files.{File, file-empty}
 use Rattle.agree.specs.Passed.{StepPassed, Passed, passed, walk-keeps}
-use Rattle.agree.specs.Phases.{Unstored, unstored-control}
+use Rattle.agree.specs.Phases.{unstored-control}
 use Rattle.agree.specs.Steps.{Holds, Stores, programFor, sample-step, control-step}
 
 -- ---- what steps leave alone

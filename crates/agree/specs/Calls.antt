@@ -1,16 +1,14 @@
 -- DEMAND 3, said of the calls: where the checker's call passes a list and the step run's call accepts it, the step run renders what the graph run renders.
 -- Assumes nothing.
 use mathlib.Core.Path.{_≡_, refl, sym, ap, _∙_}
-use mathlib.Core.Bool.{Bool, true, false, not, cond, _||_}
+use mathlib.Core.Bool.{true, not}
 use mathlib.Core.List.{List}
 use Prim.Native.Nat.{ℕ, zero, suc, _+_, _*_, _≤_}
 use native.Mathlib.Omega.{arith}
 use lib.ListN.{length}
-use lib.Dec.{ltb}
 use borrow.Author.Tests.{not-false, le-leb, le-ltb}
 use Rattle.tables.specs.Tests.{or-none}
 use Rattle.answers.specs.Numbers.{Answer, accepted, refused}
-use Rattle.answers.specs.Order.{refuse}
 use Rattle.answers.specs.OrderLaws.{then-accepted, refuse-accepted, then-pass, refuse-pass, refuse-off}
 use Rattle.block.specs.Block.{Block}
 use Rattle.block.specs.Validation.{expandedLength, validation}
@@ -24,7 +22,7 @@ use Rattle.step_run.specs.declared.Done.{Done}
 use Rattle.step_run.specs.Budget.{largest, samplesDone}
 use Rattle.step_run.specs.BudgetLaws.{done-inputs}
 use Rattle.step_run.specs.CallLaws.{long}
-use Rattle.step_run.specs.Run.{Code, setupOf, Tables, runFor, samplesOf, runJudged, runAnswer, tablesAfter, runAfter, runCall}
+use Rattle.step_run.specs.Run.{Code, Tables, samplesOf, runJudged, runAnswer, tablesAfter, runAfter, runCall}
 use Rattle.checker.specs.Walk.{walkAnswer}
 use Rattle.checker.specs.Check.{listingOf, checkJudged, checkCall}
 use Rattle.checker.specs.Check as Check

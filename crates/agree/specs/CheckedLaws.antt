@@ -1,12 +1,12 @@
 -- One call after the other is the checked run: `checked-run`. Assumes nothing.
-use mathlib.Core.Path.{_≡_, refl, sym, ap, _∙_}
-use mathlib.Core.Bool.{Bool, true, false, not, cond, _||_}
+use mathlib.Core.Path.{_≡_, refl, ap, _∙_}
+use mathlib.Core.Bool.{true, not}
 use mathlib.Core.List.{List, _++_}
 use Prim.Native.Nat.{ℕ, zero, suc, _+_, _*_, _≤_}
 use native.Mathlib.Omega.{arith}
 use lib.ListN.{length, drop, replicate, length-append}
 use lib.Seq.{drop-at}
-use lib.Dec.{ltb, eqb}
+use lib.Dec.{ltb}
 use borrow.Author.Tests.{not-false, ltb-false, le-ltb, ne-eqb}
 use Rattle.tables.specs.Tests.{neither}
 use Rattle.tables.specs.Lists.{list-length}
@@ -15,20 +15,16 @@ use Rattle.answers.specs.Order.{_⨾_, refuse}
 use Rattle.answers.specs.OrderLaws.{then-accepted, refuse-accepted, then-pass, refuse-pass}
 use Rattle.block.specs.Block.{Block, parameterCount, stateCount, delayCount}
 use Rattle.block.specs.Validation.{expandedLength, validation}
-use Rattle.block.specs.Valid.{Valid, valid}
+use Rattle.block.specs.Valid.{valid}
 use Rattle.expand.specs.Graph.{graphOf}
 use Rattle.expand.specs.Lengths.{expansion-words-length}
 use Rattle.kernel.specs.declared.Kernel.{Kernel}
-use Rattle.kernel.specs.Lists.{Sizes, sizes, listMayRun}
-use Rattle.memory.specs.Sizes.{runFits}
-use Rattle.memory.specs.Signals.{Signals, Rendered}
-use Rattle.graph_run.specs.Run as GraphRun
-use Rattle.step_run.specs.declared.Done.{Done}
+use Rattle.kernel.specs.Lists.{sizes, listMayRun}
+use Rattle.memory.specs.Signals.{Signals}
 use Rattle.step_run.specs.BudgetLaws.{done-inputs}
-use Rattle.step_run.specs.CallLaws.{Long, long}
 use Rattle.step_run.specs.SampleLaws.{spent-is}
 use Rattle.step_run.specs.Run as StepRun
-use Rattle.step_run.specs.Run.{Code, setupOf, runFor, samplesOf, stepsSpent, expansionAfter, tablesAfter, runJudged, runAnswer, runAfter, runCall}
+use Rattle.step_run.specs.Run.{Code, setupOf, runFor, samplesOf, stepsSpent, tablesAfter, runJudged, runAnswer, runAfter, runCall}
 use Rattle.checker.specs.Walk.{sizesOf, walkAnswer}
 use Rattle.checker.specs.Check as Check
 use Rattle.checker.specs.Check.{listingOf, checkJudged, checkAfter, checkCall}

@@ -27,10 +27,10 @@ use Rattle.kernel.specs.declared.Phase.the-variants.{Control, Sample}
 use Rattle.kernel.specs.Steps.{stepAt, allowedIn}
 use Rattle.kernel.specs.Instructions.{destination, instructionAt}
 use Rattle.step_run.specs.Run.{Code, codeOf}
-use Rattle.checker.specs.Walk.{Listing, sizesOf, Held, register, loadedClass, resultOfTwo, resultOfOne, computedClass, wordsClass, withResult, afterStep, emptied, entered, walked, beforeControl, beforeSample, walkAnswer}
+use Rattle.checker.specs.Walk.{Listing, sizesOf, Held, register, loadedClass, resultOfTwo, resultOfOne, computedClass, wordsClass, withResult, afterStep, emptied, entered, beforeControl, beforeSample, walkAnswer}
 use Rattle.agree.specs.Files.{File, file-get, file-set, file-empty}
 use Rattle.agree.specs.Passed.{StepPassed, WordsPassed, Passed, passed, walk-keeps, unless-says, two-says, one-says, asked-says}
-use Rattle.agree.specs.Marks.{Marks, marks, isFilled, sourceFilled, operandsFilled, instructionFilled, readsFilled, fillResult, fill, fillWords, marksTo, unfilled, sampleBegins, marksBeforeControl, marksAtSample, marksBeforeSample, isSure, wordsSure}
+use Rattle.agree.specs.Marks.{Marks, isFilled, sourceFilled, operandsFilled, instructionFilled, readsFilled, fillResult, fill, marksTo, unfilled, sampleBegins, marksBeforeControl, marksAtSample, marksBeforeSample, isSure, wordsSure}
 
 -- the code of a listing
 abbrev pub codeIn : Listing → Code
@@ -150,35 +150,32 @@ control-left instructions m (StoreOutput r) a = refl
 control-left instructions m (StoreControl slot r) a = true-false (sym a)
 
 module _ (l : Listing) (p : Passed l) where
-  abbrev code : Code
-  code = codeOf (l .kernel) (l .steps) (l .instructions)
-
   abbrev controlled : Held
   controlled = beforeControl l (l .kernel .control)
 
-  control-marked : (i : ℕ) → i ≤ l .kernel .control → Marked (beforeControl l i) (marksBeforeControl code i)
+  control-marked : (i : ℕ) → i ≤ l .kernel .control → Marked (beforeControl l i) (marksBeforeControl (codeIn l) i)
   unfolding marksTo
   control-marked i h =
-      walk-keeps l Control (emptied l) 0 (l .kernel .control) (λ k. false) (p .control) (marksBeforeControl code) (fill (l .instructions))
-      (next-marks code (unfilled (l .kernel)) 0) Marked (λ last k m step q. step-marked l k m step) (nothing-marked l) i h
+      walk-keeps l Control (emptied l) 0 (l .kernel .control) (λ k. false) (p .control) (marksBeforeControl (codeIn l)) (fill (l .instructions))
+      (next-marks (codeIn l) (unfilled (l .kernel)) 0) Marked (λ last k m step q. step-marked l k m step) (nothing-marked l) i h
 
   -- a sample that begins with these marks
   sample-marked : (m : Marks) → Marked (entered l controlled) m → (i : ℕ) → i ≤ l .kernel .sample
-      → Marked (beforeSample l i) (marksTo code m (l .kernel .control) i) × (marksTo code m (l .kernel .control) i .control ≡ m .control)
+      → Marked (beforeSample l i) (marksTo (codeIn l) m (l .kernel .control) i) × (marksTo (codeIn l) m (l .kernel .control) i .control ≡ m .control)
   unfolding marksTo
   sample-marked m q i h =
       walk-keeps l Sample (entered l controlled) (l .kernel .control) (l .kernel .sample) (λ k. eqb (suc k) (l .kernel .sample)) (p .sample)
-      (marksTo code m (l .kernel .control)) (fill (l .instructions)) (next-marks code m (l .kernel .control))
+      (marksTo (codeIn l) m (l .kernel .control)) (fill (l .instructions)) (next-marks (codeIn l) m (l .kernel .control))
       (λ k y. Marked k y × (y .control ≡ m .control))
       (λ last k y step r a. (step-marked l k y step (a .0), control-left (l .instructions) y step (r .allowed) ∙ a .1)) (q, refl) i h
 
   -- the start of each sample
-  samples-marked : (t : ℕ) → Marked (entered l controlled) (marksAtSample code t)
+  samples-marked : (t : ℕ) → Marked (entered l controlled) (marksAtSample (codeIn l) t)
   unfolding marksAtSample entered
   samples-marked zero = sample-begun l controlled _ (control-marked (l .kernel .control) (omega arith) .1)
   samples-marked (suc t) =
       let before = samples-marked t in
-      let after = sample-marked (marksAtSample code t) before (l .kernel .sample) (omega arith) in
+      let after = sample-marked (marksAtSample (codeIn l) t) before (l .kernel .sample) (omega arith) in
       sample-begun l controlled _ (rw (after .1) (control-of before))
     where
       control-of : {m : Marks} → Marked (entered l controlled) m → File one (controlled .control) (m .control)

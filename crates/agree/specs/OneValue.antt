@@ -10,7 +10,7 @@ use lib.ListN.{length, getD, length-append, List·getD-append}
 use lib.Seq.{getD-at}
 use lib.Dec.{eqb}
 use borrow.Author.Tests.{eqb-true, eqb-false, ltb-true}
-use Rattle.tables.specs.Tests.{_&_, &-both, true-false}
+use Rattle.tables.specs.Tests.{&-both}
 use Rattle.block.specs.Block.{code, first, second}
 use Rattle.block.specs.Kinds.{kindOf, operandsOf}
 use Rattle.block.specs.Validation.{Counts}
@@ -192,6 +192,10 @@ module _ {n : Counts} {g : Graph} (good : GoodGraph n g) where
     -- NODES OF ONE CLASS HAVE ONE VALUE: a node has the value of its class's first node
     pub class-value : (i : ℕ) → i < g .count → valueAt g x m i ≡ valueAt g x m (classAt g i)
     class-value i l = class-below (suc i) i (omega arith) l
+
+    -- .. so two nodes of one class have one
+    pub one-value : (i j : ℕ) → i < g .count → j < g .count → classAt g i ≡ classAt g j → valueAt g x m i ≡ valueAt g x m j
+    one-value i j h l e = class-value i h ∙ (ap (valueAt g x m) e ∙ sym (class-value j l))
 
     -- WHAT IS FOUND has the value that its code and its operands' values, or its words, give
     pub find-value : (c p q j : ℕ) → find (g .nodes) (g .count) c p q ≡ suc j → valueAt g x m j ≡ valueOf (g .delayLengths) x m (values g x m) c p q

@@ -1,16 +1,15 @@
 -- What a list that the checker passes has: every step's tests as facts with names, and an induction over the steps of a phase. Assumes nothing.
-use mathlib.Core.Path.{_≡_, refl, sym, ap, _∙_, subst}
-use mathlib.Core.Bool.{Bool, true, false, not, cond}
-use mathlib.Core.List.{List}
+use mathlib.Core.Path.{_≡_, refl, sym, _∙_}
+use mathlib.Core.Bool.{Bool, true, false, cond}
 use Prim.Native.Nat.{ℕ, zero, suc, _+_, _≤_, _<_}
 use native.Mathlib.Nat.{zero-add, suc-inj}
 use native.Mathlib.Omega.{arith}
-use lib.ListN.{length, getD}
+use lib.ListN.{length}
 use lib.Dec.{eqb}
-use borrow.Author.Tests.{eqb-true, eqb-false, not-false}
-use Rattle.tables.specs.Tests.{_&_, &-both, true-false, differ-of}
+use borrow.Author.Tests.{eqb-true, not-false}
+use Rattle.tables.specs.Tests.{&-both, true-false, differ-of}
 use Rattle.tables.specs.Loops.{every-true}
-use Rattle.answers.specs.Numbers.{Answer, accepted}
+use Rattle.answers.specs.Numbers.{accepted}
 use Rattle.answers.specs.Order.{inOrder}
 use Rattle.answers.specs.OrderLaws.{then-accepted, refuse-at-accepted, in-order-accepted}
 use Rattle.kernel.specs.declared.Step.{Step}
@@ -22,7 +21,7 @@ use Rattle.kernel.specs.Steps.{stepAt, allowedIn}
 use Rattle.kernel.specs.Lists.{stepMayRun, indexInside, computesFormed}
 use Rattle.expand.specs.Graph.{Graph}
 use Rattle.classes.specs.Classes.{find}
-use Rattle.checker.specs.Walk.{Listing, sizesOf, Held, stepInMask, unlessStored, resultOfTwo, resultOfOne, classOf, asked, movedClass, afterStep, afterWords, emptied, entered, walked, beforeControl, beforeSample, outputOnlyLast, stepPasses, wordsPass, controlPasses, samplePasses, storedIfAsked, nothingMissing, controlAnswer, sampleAnswer, walkAnswer}
+use Rattle.checker.specs.Walk.{Listing, sizesOf, Held, stepInMask, unlessStored, resultOfTwo, resultOfOne, asked, movedClass, afterStep, walked, beforeControl, beforeSample, outputOnlyLast, stepPasses, wordsPass, controlPasses, samplePasses, storedIfAsked, nothingMissing, controlAnswer, sampleAnswer, walkAnswer}
 use Rattle.agree.specs.OneValue.{classAt}
 
 -- ---- a step that passes

@@ -2,7 +2,6 @@
 -- Assumes nothing.
 use mathlib.Core.Path.{_≡_, refl, sym, subst}
 use mathlib.Core.Bool.{Bool, true, false}
-use mathlib.Core.List.{List}
 use Prim.Native.Nat.{ℕ, zero, suc, _<_}
 use native.Mathlib.Nat.{zero-add}
 use native.Mathlib.Omega.{arith}
@@ -21,7 +20,7 @@ use Rattle.kernel.specs.Instructions.{instructionAt}
 use Rattle.kernel.specs.Lists.{listMayRun}
 use Rattle.kernel.specs.ListLaws.{MayRun, may-run-list}
 use Rattle.checker.specs.Walk.{Listing, sizesOf, Held, withResult, afterStep, emptied, entered, walked, beforeControl, beforeSample, walkAnswer}
-use Rattle.agree.specs.Passed.{StepPassed, WordsPassed, Passed, passed, walk-keeps}
+use Rattle.agree.specs.Passed.{WordsPassed, Passed, passed, walk-keeps}
 
 -- nothing has been stored that a sample stores
 abbrev pub Unstored : Listing → Held → Type 0

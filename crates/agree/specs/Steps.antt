@@ -1,9 +1,9 @@
 -- One step that the checker passes: the word it moves is the value of the class that the checker moves, so registers, slots and memories go on holding what
 -- the checker says. Assumes nothing.
-use mathlib.Core.Path.{_≡_, refl, sym, ap, _∙_, subst}
-use mathlib.Core.Bool.{Bool, true, false}
+use mathlib.Core.Path.{_≡_, refl, sym, ap, _∙_}
+use mathlib.Core.Bool.{Bool, true}
 use mathlib.Core.List.{List}
-use Prim.Native.Nat.{ℕ, suc, _≤_, _<_}
+use Prim.Native.Nat.{ℕ, _≤_}
 use native.Mathlib.Nat.{suc-inj}
 use native.Mathlib.Omega.{arith}
 use lib.ListN.{length, getD, set}
@@ -22,7 +22,7 @@ use Rattle.kernel.specs.declared.Instruction.the-variants.{Immediate, Add, Sub,
 use Rattle.kernel.specs.declared.InstructionWords.{InstructionWords}
 use Rattle.kernel.specs.declared.InstructionWords.the-variants as InstructionWords
 use Rattle.kernel.specs.declared.Phase.{Phase}
-use Rattle.kernel.specs.declared.Phase.the-variants.{Control, Sample}
+use Rattle.kernel.specs.declared.Phase.the-variants.{Control}
 use Rattle.kernel.specs.Steps.{sourceInControl}
 use Rattle.kernel.specs.Lists.{sourceInside}
 use Rattle.kernel.specs.Instructions.{destination, instructionAt}
@@ -34,7 +34,7 @@ use Rattle.machine.specs.Machine.{Machine, Program, program, result, execute, e
 use Rattle.checker.specs.Walk.{Listing, sizesOf, Held, fetched, loadedClass, resultOfTwo, resultOfOne, computedClass, wordsClass, withResult, afterStep}
 use Rattle.agree.specs.Codes.{value-input, value-constant, value-parameter, value-state, value-delay, value-network, value-add, value-sub, value-mul, value-min, value-max, value-integer-sub, value-neg, value-abs}
 use Rattle.agree.specs.OneValue.{valueAt, class-value, find-value}
-use Rattle.agree.specs.Stored.{Written, written-read, written-next, NoMore, readState, states-apart, linesOf, LinesFit, lines-apart}
+use Rattle.agree.specs.Stored.{Written, written-read, written-next, states-apart, linesOf, LinesFit, lines-apart}
 use Rattle.agree.specs.Files.{Says, File, file-get, file-set}
 use Rattle.agree.specs.Passed.{StepPassed, unless-says, two-says, one-says, Asked, asked-says}
 

@@ -3,7 +3,7 @@
 use mathlib.Core.Path.{_≡_, refl, sym, ap, _∙_, subst}
 use mathlib.Core.Logic.{_⊎_, inl, inr}
 use mathlib.Core.Bool.{Bool, true, false, cond}
-use mathlib.Core.List.{List, [], _∷_}
+use mathlib.Core.List.{List, []}
 use Prim.Native.Nat.{ℕ, zero, suc, _+_, _-_, _%_, _≤_, _<_}
 use native.Mathlib.Nat.{eq-or-lt-of-le, le-of-suc-le-suc, not-suc-le-zero}
 use native.Mathlib.Decide.{decLt}
@@ -12,12 +12,12 @@ use lib.ListN.{length, getD, set, length-set}
 use lib.Seq.{getD-set-same, getD-set-other, set-comm}
 use lib.Dec.{eqb}
 use borrow.Author.Tests.{eqb-true, eqb-false, eq-eqb, ne-eqb}
-use Rattle.tables.specs.Tests.{cond-true, cond-false, cond-pred}
+use Rattle.tables.specs.Tests.{cond-pred}
 use Rattle.tables.specs.Stores.{inside}
 use Rattle.tables.specs.Zeros.{zeros, zeros-length, zeros-at}
 use Rattle.memory.specs.Lines.{Memories, memories, lineLength, lineBase, cellPlace, readDelay, storeDelay}
 use Rattle.memory.specs.Fit.{Fit}
-use Rattle.memory.specs.LineLaws.{base-next, base-le, cursor-in, fit-store, cursors-kept}
+use Rattle.memory.specs.LineLaws.{base-next, base-le, cursor-in, fit-store}
 use Rattle.graph_run.specs.Sample.{updateState, updateStates, updateDelay, updateDelays}
 
 -- a memory with places to store to
