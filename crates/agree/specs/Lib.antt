@@ -12,3 +12,5 @@ pub mod Filled
 pub mod Calls
 pub mod Checked
 pub mod CheckedLaws
+pub mod Ordered
+pub mod OrderedLaws
