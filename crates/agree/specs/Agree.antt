@@ -3,12 +3,12 @@ use mathlib.Core.Path.{_≡_, refl, sym, ap, _∙_}
 use mathlib.Core.Logic.{_⊎_, inl, inr}
 use mathlib.Core.Bool.{Bool, true, false, not}
 use mathlib.Core.List.{List}
-use Prim.Native.Nat.{ℕ, zero, suc, _+_, _≤_}
+use Prim.Native.Nat.{ℕ, zero, suc, _≤_}
 use native.Mathlib.Omega.{arith}
-use lib.ListN.{length, getD, set, length-set}
+use lib.ListN.{length, getD, set}
 use lib.Dec.{eqb}
 use borrow.Author.Tests.{eqb-true}
-use Rattle.tables.specs.Tests.{true-false, either, differ-of}
+use Rattle.tables.specs.Tests.{either, differ-of}
 use Rattle.tables.specs.Lists.{list-length}
 use Rattle.tables.specs.Zeros.{zeros-length}
 use Rattle.answers.specs.Numbers.{accepted}
@@ -18,23 +18,14 @@ use Rattle.block.specs.Valid.{Valid}
 use Rattle.expand.specs.Graph.{graphOf}
 use Rattle.expand.specs.GraphLaws.{GoodGraph, good-graph}
 use Rattle.kernel.specs.declared.Step.{Step}
-use Rattle.kernel.specs.declared.Step.the-variants.{Load, Compute, Spill, Reload, StoreState, StoreDelay, StoreOutput, StoreControl}
-use Rattle.kernel.specs.declared.StepWords.{StepWords}
-use Rattle.kernel.specs.declared.StepWords.the-variants as StepWords
-use Rattle.kernel.specs.declared.InstructionWords.{InstructionWords}
-use Rattle.kernel.specs.declared.InstructionWords.the-variants as InstructionWords
 use Rattle.kernel.specs.declared.Phase.the-variants.{Control, Sample}
-use Rattle.kernel.specs.Steps.{stepAt, allowedIn}
-use Rattle.kernel.specs.Instructions.{instructionAt}
 use Rattle.memory.specs.Lines.{Memories, memories, storeDelay}
 use Rattle.memory.specs.Sizes.{runFits}
 use Rattle.memory.specs.SizeLaws.{fitting, fit, graph-lengths}
-use Rattle.memory.specs.Signals.{Given, given, Signals, givenBy, Rendered, rendered}
+use Rattle.memory.specs.Signals.{given, Signals, givenBy, Rendered, rendered}
 use Rattle.graph_run.specs.Sample.{Sampled, sampled, values, updateStates, updateDelays, updated, sample}
 use Rattle.graph_run.specs.Run.{emit, samplesTo as graphSamplesTo}
-use Rattle.machine.specs.Machine.{Machine, Program, act, actWords, executeWords, execute, counted, stepsTo, withOutput}
-use Rattle.machine.specs.Ready.{Lengths}
-use Rattle.machine.specs.StepLaws.{act-kept}
+use Rattle.machine.specs.Machine.{Machine, act, counted, stepsTo, withOutput}
 use Rattle.step_run.specs.Run.{Code, setupOf, noOutput, cleared, controlDone, sampleDone, Running, running, samplesTo, Tables, runFor}
 use Rattle.checker.specs.Walk.{Listing, Held, afterStep, emptied, entered, beforeControl, beforeSample, storedIfAsked, walkAnswer}
 use Rattle.checker.specs.Check.{listingOf}
@@ -42,63 +33,9 @@ use Rattle.agree.specs.OneValue.{valueAt}
 use Rattle.agree.specs.Stored.{written-start, written-end, written-kept, states-stored, linesOf, LinesFit, lines-apart, delays-stored, lines-updated}
 use Rattle.agree.specs.Files.{File, file-empty}
 use Rattle.agree.specs.Passed.{StepPassed, Passed, passed, walk-keeps}
+use Rattle.agree.specs.Unchanged.{control-same, memories-same, Long, long-step, next-machine}
 use Rattle.agree.specs.Phases.{unstored-control}
 use Rattle.agree.specs.Steps.{Holds, Stores, programFor, sample-step, control-step}
-
--- ---- what steps leave alone
-
--- the registers keep their number
-result-long : (r : List ℕ) (w : InstructionWords) → length (executeWords r w) ≡ length r
-unfolding execute
-result-long r (InstructionWords.Formed i) = simp length-set
-result-long r InstructionWords.Malformed = refl
-
-registers-long : (p : Program) (x : Given) (m : Machine) (step : Step) → length (act p x m step .registers) ≡ length (m .registers)
-registers-long p x m (Load source r) = simp length-set
-registers-long p x m (Compute i) = result-long (m .registers) (instructionAt (p .instructions) i)
-registers-long p x m (Spill slot r) = refl
-registers-long p x m (Reload slot r) = simp length-set
-registers-long p x m (StoreState state r) = refl
-registers-long p x m (StoreDelay delay r) = refl
-registers-long p x m (StoreOutput r) = refl
-registers-long p x m (StoreControl slot r) = refl
-
--- a sample step leaves the control slots
-control-same : (p : Program) (x : Given) (m : Machine) (step : Step) → allowedIn Sample step ≡ true → act p x m step .control ≡ m .control
-control-same p x m (Load source r) a = refl
-control-same p x m (Compute i) a = refl
-control-same p x m (Spill slot r) a = refl
-control-same p x m (Reload slot r) a = refl
-control-same p x m (StoreState state r) a = refl
-control-same p x m (StoreDelay delay r) a = refl
-control-same p x m (StoreOutput r) a = refl
-control-same p x m (StoreControl slot r) a = true-false (sym a)
-
--- a control step leaves the memories
-memories-same : (p : Program) (x : Given) (m : Machine) (step : Step) → allowedIn Control step ≡ true → act p x m step .memories ≡ m .memories
-memories-same p x m (Load source r) a = refl
-memories-same p x m (Compute i) a = refl
-memories-same p x m (Spill slot r) a = refl
-memories-same p x m (Reload slot r) a = refl
-memories-same p x m (StoreState state r) a = true-false (sym a)
-memories-same p x m (StoreDelay delay r) a = true-false (sym a)
-memories-same p x m (StoreOutput r) a = refl
-memories-same p x m (StoreControl slot r) a = refl
-
--- how many words a step machine's tables have, its memories' left out
-abbrev Long : Machine → Machine → Type 0
-Long m₀ m = (length (m .registers) ≡ length (m₀ .registers)) × (length (m .control) ≡ length (m₀ .control)) × (length (m .spills) ≡ length (m₀ .spills))
-
-long-step : (p : Program) (x : Given) (m₀ m : Machine) (step : Step) → Long m₀ m → Long m₀ (act p x m step)
-long-step p x m₀ m step (r, c, s) =
-    let e = act-kept p x m step in
-    (registers-long p x m step ∙ r, ap (λ (y : Lengths). y .control) e ∙ c, ap (λ (y : Lengths). y .spills) e ∙ s)
-
--- words that are a step's are run as that step
-next-machine : (p : Program) (steps : List ℕ) (x : Given) (m : Machine) (from i : ℕ) (step : Step) → stepAt steps (from + i) ≡ StepWords.Formed step
-    → stepsTo p steps x m from (suc i) ≡ counted (act p x (stepsTo p steps x m from i) step)
-unfolding stepsTo actWords
-next-machine p steps x m from i step e = rw e
 
 -- what is stored where nothing is missing
 stored-all : (updates stored : List ℕ) (i : ℕ) → storedIfAsked updates stored i ≡ true → getD stored i 0 ≡ 0 → getD updates i 0 ≡ 0
@@ -182,7 +119,8 @@ module _ {n : Counts} (l : Listing) (good : GoodGraph n (l .graph)) (lined : len
         let lines : linesOf (ended .memories) ≡ updateDelays (g .delayUpdates) (g .delayLengths) vs (linesOf (m .memories)) (length (g .delayUpdates)) =
         written-end (storeDelay (g .delayLengths)) _ _ _ _ _ (kept .1) (λ i h. stored-all _ _ i (p .delays i h)) ∙ sym (delays-stored _ _ _ _ _) in
         let all : ended .memories ≡ updated g vs (m .memories) =
-        (λ i. memories (states i) (lines i .area) (lines i .cursors)) ∙ sym (lines-updated (g .delayUpdates) (g .delayLengths) vs (memories _ (m .memories .area) (m .memories .cursors)) (length (g .delayUpdates))) in
+        (λ i. memories (states i) (lines i .area) (lines i .cursors))
+        ∙ sym (lines-updated (g .delayUpdates) (g .delayLengths) vs (memories _ (m .memories .area) (m .memories .cursors)) (length (g .delayUpdates))) in
         λ i. sampled (kept .2 (p .output) i) (all i)
 
     -- .. and the machine waits for the next sample

@@ -16,6 +16,7 @@ pub data File (value : ℕ → ℕ) : List ℕ → List ℕ → Type 0 where
   fileWord : {w v : ℕ} {ws vs : List ℕ} → Says value w v → File value ws vs → File value (w ∷ ws) (v ∷ vs)
 
 module _ (value : ℕ → ℕ) where
+  -- a word read on both sides
   pub file-get : {ws vs : List ℕ} → File value ws vs → (j : ℕ) → Says value (getD ws j 0) (getD vs j 0)
   file-get fileEnd j k e = absurd (omega arith)
   file-get (fileWord h r) zero k e = h k e

@@ -6,6 +6,7 @@ pub mod Files
 pub mod Passed
 pub mod Phases
 pub mod Steps
+pub mod Unchanged
 pub mod Agree
 pub mod Marks
 pub mod Filled

@@ -108,6 +108,7 @@ module _ {S : Type 0} (l : Listing) (phase : Phase) (start : Held) (from count :
       rw (w .words, next n (w .step) (w .words)) (keeps (last n) (walked l start from n) (state n) (w .step) (w .passed) before)
 
 -- ---- what a class that is moved says
+-- a memory's: it has not been stored
 pub unless-says : (stored class k : ℕ) → unlessStored stored class ≡ suc k → (stored ≡ 0) × (class ≡ suc k)
 unfolding unlessStored
 unless-says stored class k e = go (eqb stored 0) refl e
@@ -116,12 +117,14 @@ unless-says stored class k e = go (eqb stored 0) refl e
     go true p e = (eqb-true stored 0 p, e)
     go false p e = absurd (omega arith)
 
+-- a computed one's: both registers are filled, and some node has the code and those operands' classes
 pub two-says : (g : Graph) (c x y k : ℕ) → resultOfTwo g c x y ≡ suc k → (i : ℕ) × (j : ℕ) × (x ≡ suc i) × (y ≡ suc j) × (find (g .nodes) (g .count) c i j ≡ suc k)
 unfolding resultOfTwo
 two-says g c zero y k e = absurd (omega arith)
 two-says g c (suc x) zero k e = absurd (omega arith)
 two-says g c (suc x) (suc y) k e = (x, y, refl, refl, e)
 
+-- .. of one operand
 pub one-says : (g : Graph) (c x k : ℕ) → resultOfOne g c x ≡ suc k → (i : ℕ) × (x ≡ suc i) × (find (g .nodes) (g .count) c i 0 ≡ suc k)
 unfolding resultOfOne
 one-says g c zero k e = absurd (omega arith)

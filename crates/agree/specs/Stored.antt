@@ -56,6 +56,7 @@ module _ {M : Type 0} (store : M → ℕ → ℕ → M) where
     pub other : (m : M) (i k v : ℕ) → i < size → k < size → (k ≡ i → ⊥) → Kept m → read (store m i v) k ≡ read m k
 
   module _ {Kept : M → Type 0} {read : M → ℕ → ℕ} {size : ℕ} (a : Apart Kept read size) (value : ℕ → ℕ) where
+    -- what is kept of the memory is kept by all stores
     pub stored-kept : (flags : List ℕ) (m : M) (n : ℕ) → n ≤ size → Kept m → Kept (storedTo value flags m n)
     unfolding storedTo
     stored-kept flags m zero h k = k
@@ -141,6 +142,7 @@ module _ {M : Type 0} (store : M → ℕ → ℕ → M) (updates values : List �
     written-read flags now i w l z =
         ap (λ (m : M). read m i) (w .stored) ∙ stored-read store a (askedValue updates values) flags start (length updates) i few (omega arith) z kept
 
+    -- what is kept of the memory is kept
     pub written-kept : (flags : List ℕ) (now : M) → Written store updates values start flags now → Kept now
     written-kept flags now w = subst Kept (sym (w .stored)) (stored-kept store a (askedValue updates values) flags start (length updates) few kept)
 
@@ -162,9 +164,11 @@ module _ {M : Type 0} (store : M → ℕ → ℕ → M) (updates values : List �
 abbrev pub NoMore : List ℕ → Type 0
 NoMore states = Unit {0}
 
+-- a state is read as it is
 abbrev pub readState : List ℕ → ℕ → ℕ
 readState states i = getD states i 0
 
+-- stores to two states
 pub states-apart : (size : ℕ) → Apart set NoMore readState size
 states-apart size =
     record {
@@ -184,6 +188,7 @@ states-stored updates values states (suc n) = rw (states-stored updates values s
 abbrev pub linesOf : Memories → Memories
 linesOf m = memories [] (m .area) (m .cursors)
 
+-- the lines lie in the area and every cursor in its line
 abbrev pub LinesFit : List ℕ → Memories → Type 0
 LinesFit lengths m = Fit lengths (m .area) (m .cursors)
 
@@ -196,6 +201,7 @@ places-differ {lengths} {area} {cursors} f i k h l =
     let b = base-le lengths (i + 1) k (omega arith) in
     omega arith
 
+-- .. whichever comes first
 places-apart : {lengths area cursors : List ℕ} → Fit lengths area cursors → (i k : ℕ) → (i ≡ k → ⊥) → i < length cursors → k < length cursors
     → lineBase lengths i + getD cursors i 0 ≡ lineBase lengths k + getD cursors k 0 → ⊥
 places-apart f i k d h l e = go (decLt i k)
@@ -204,6 +210,7 @@ places-apart f i k d h l e = go (decLt i k)
     go (yes q) = let p = places-differ f i k q l in omega arith
     go (no q) = let r : k < i = omega arith in let p = places-differ f k i r h in omega arith
 
+-- stores to two delay lines: a store moves its own line's cursor alone and writes in its own line's part of the area
 pub lines-apart : (lengths : List ℕ) → Apart (storeDelay lengths) (LinesFit lengths) (readDelay lengths) (length lengths)
 unfolding storeDelay readDelay
 lines-apart lengths =
@@ -243,7 +250,10 @@ lines-updated updates lengths values m (suc n) = rw (lines-updated updates lengt
     before : Memories
     before = updateDelays updates lengths values (linesOf m) n
 
-    go : (b : Bool) → cond b (memories (m .states) (before .area) (before .cursors)) (storeDelay lengths (memories (m .states) (before .area) (before .cursors)) n (askedValue updates values n))
-        ≡ memories (m .states) (cond b before (storeDelay lengths before n (askedValue updates values n)) .area) (cond b before (storeDelay lengths before n (askedValue updates values n)) .cursors)
+    v : ℕ
+    v = askedValue updates values n
+
+    go : (b : Bool) → cond b (memories (m .states) (before .area) (before .cursors)) (storeDelay lengths (memories (m .states) (before .area) (before .cursors)) n v)
+        ≡ memories (m .states) (cond b before (storeDelay lengths before n v) .area) (cond b before (storeDelay lengths before n v) .cursors)
     go true = refl
     go false = refl
