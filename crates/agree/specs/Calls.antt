@@ -50,6 +50,7 @@ pub record Ran (b : Block) (c : Code) (budget : ℕ) (s : Signals) (t : Tables) 
   pub fits : runFits b (s .parameters) (t .rendered .memories) (s .input) (t .rendered .output) (s .network) ≡ true
   pub samples : d .samples ≡ samplesOf c budget s
 
+-- .. as facts
 pub ran : (b : Block) (c : Code) (budget : ℕ) (s : Signals) (t : Tables) (d : Done) → runCall b c budget s t .answer ≡ accepted d → Ran b c budget s t d
 unfolding runCall runAnswer runJudged samplesTold
 ran b c budget s t d e =

@@ -76,6 +76,7 @@ unfolding keyOf
 key-same true classes others word h = h refl
 key-same false classes others word h = refl
 
+-- .. an operand's is its class, any other word's the word
 key-operand : (operand : Bool) (classes : List ℕ) (word : ℕ) → operand ≡ true → keyOf operand classes word ≡ getD classes word 0
 unfolding keyOf
 key-operand operand classes word e = rw e

@@ -72,6 +72,7 @@ pub record Passed (l : Listing) : Type 0 where
       → storedIfAsked (l .graph .delayUpdates) (beforeSample l (l .kernel .sample) .delaysStored) i ≡ true
   pub output : beforeSample l (l .kernel .sample) .outputStored ≡ 0 → ⊥
 
+-- A LIST THAT THE CHECKER PASSES has all of it
 pub passed : (l : Listing) → walkAnswer l ≡ accepted tt → Passed l
 unfolding walkAnswer controlPasses samplePasses nothingMissing
 passed l e =

@@ -52,7 +52,7 @@ unstored-control l p =
     walk-keeps {S = Unit {0}} l Control (emptied l) 0 (l .kernel .control) (λ k. false) (p .control) (λ k. tt) (λ u step. tt) (λ k step e. refl) (λ h u. Unstored l h)
     (λ last h u step q a. unstored-step l h step (q .allowed) a) (refl, refl, refl) (l .kernel .control) (omega arith)
 
--- ---- answer 15
+-- ---- answer 15: every step that passes may run
 may-run : (l : Listing) (phase : Phase) (last : Bool) (h : Held) (w : StepWords) → WordsPassed l phase last h w → MayRun (sizesOf l) (l .instructions) phase w
 may-run l phase last h w p =
     record { step = p .step; formed = p .words; allowed = p .passed .allowed; inside = p .passed .inside; computes = p .passed .formed }
