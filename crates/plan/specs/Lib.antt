@@ -1,0 +1,14 @@
+-- The plan.
+pub mod Lists
+pub mod Nodes
+pub mod Hoist
+pub mod Origins
+pub mod Schedule
+pub mod TestLaws
+pub mod ListLaws
+pub mod OriginLaws
+pub mod Reached
+pub mod Planned
+pub mod Worklist
+pub mod Ordinals
+pub mod RustPlan
