@@ -9,6 +9,7 @@ pub mod ListLaws
 pub mod OriginLaws
 pub mod Reached
 pub mod Planned
+pub mod Flow
 pub mod Worklist
 pub mod Ordinals
 pub mod RustPlan

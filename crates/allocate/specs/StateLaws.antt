@@ -1,0 +1,240 @@
+-- What the allocator's small changes do to its state. Assumes nothing.
+use mathlib.Core.Path.{_∙_, _≡_, refl}
+use mathlib.Core.Logic.{_≢_, _⊎_, inl, inr}
+use mathlib.Core.Bool.{Bool, _||_, false, not, true}
+use mathlib.Core.List.{List, [], _∷_}
+use Prim.Native.Nat.{_+_, _<_, _≤_, pred, suc, zero, ℕ}
+use native.Mathlib.Omega.{arith}
+use native.Mathlib.Decide.{ℕ-discrete}
+use lib.ListN.{getD, length, length-append, length-set, set}
+use lib.Seq.{getD-set-other, getD-set-same}
+use lib.Dec.{T}
+use Rattle.tables.specs.Stores.{set-says}
+use Rattle.plan.specs.Origins.{hasOrigin, originAt}
+use Rattle.allocate.specs.State.{Allocated, allocated, allLocked, Setting, State, Taken, registerOf, ownerOf, slotOf, reloadable, spillIn, spillOut, place, vacate, disown, release}
+use Rattle.allocate.specs.Allocator.{evict, evictKey, takeBest, takeFree, takeRegister}
+use Rattle.plan.specs.Lists.{member, filter, firstOf, best, isNone, isSome}
+use Rattle.allocate.specs.Invariants.{Regs, Slots, regs-place, regs-vacate, regs-release, slots-new, slots-reuse, slots-release}
+use Rattle.plan.specs.TestLaws.{or-second}
+use Rattle.plan.specs.ListLaws.{filter-member, first-zero, first-some, best-member}
+
+pub record GoodF (e : Setting) (home holder owner spilled : List ℕ) (fresh : List Bool) (free : List ℕ) (count : ℕ) : Type 0 where
+  pub registers : Regs (e .registers) holder owner
+  pub slots : Slots home (e .fixed) spilled free count
+  pub holders : length holder ≡ length (e .origins)
+  pub owners : length owner ≡ 16
+  pub spilleds : length spilled ≡ length (e .origins)
+  pub freshes : length fresh ≡ length (e .origins)
+  pub src : (n : ℕ) → T (getD fresh n false) → T (hasOrigin (originAt (e .origins) n))
+
+abbrev pub Good : Setting → List ℕ → State → Type 0
+Good e home s = GoodF e home (s .holder) (s .owner) (s .spilled) (s .fresh) (s .free) (s .slots)
+
+-- the value of n is at hand: in a register, in a slot, or fresh in memory
+abbrev pub avail : State → ℕ → Bool
+avail s n = isSome (registerOf s n) || reloadable s n
+
+-- what take can do
+pub data TakeView (e : Setting) (n : ℕ) (locked : List ℕ) (s : State) : Allocated Taken → Type 0 where
+  was-free : (r : ℕ) → ownerOf s r ≡ 0 → T (member r (e .registers)) → TakeView e n locked s (allocated (record { register = r; state = place n r s }))
+  evicted : (r v : ℕ) → ownerOf s r ≡ suc v → T (member r (e .registers)) → (T (member r locked) → ⊥) → TakeView e n locked s (allocated (record { register = r; state = place n r (evict e v r s) }))
+  none : TakeView e n locked s allLocked
+
+isZero-suc : (n : ℕ) → isNone n ≡ false → n ≡ suc (pred n)
+isZero-suc zero h = let z : _≡_ {A = ℕ} 0 1 = cc in omega arith
+isZero-suc (suc n) h = omega arith
+
+isZero-zero : (n : ℕ) → isNone n ≡ true → n ≡ 0
+isZero-zero zero h = refl
+isZero-zero (suc n) h = let z : _≡_ {A = ℕ} 0 1 = cc in omega arith
+
+not-T : (b : Bool) → T (not b) → T b → ⊥
+not-T true t u = t
+not-T false t u = u
+
+pub take-view : (e : Setting) (rest : List (List ℕ)) (n : ℕ) (locked : List ℕ) (s : State) → TakeView e n locked s (takeRegister e rest n locked s)
+unfolding takeRegister
+take-view e rest n locked s = go (firstOf (λ r. isNone (ownerOf s r)) (e .registers)) refl
+  where
+    xs : List ℕ
+    xs = filter (λ r. not (member r locked)) (e .registers)
+
+    go₂ : (b : ℕ) → best (evictKey rest s) xs ≡ b → firstOf (λ r. isNone (ownerOf s r)) (e .registers) ≡ 0 → TakeView e n locked s (takeBest e n s b)
+    go₂ zero q h = none
+    go₂ (suc r) q h =
+        let m : T (member r (e .registers)) × T (not (member r locked)) = filter-member (λ r. not (member r locked)) (e .registers) r (best-member (evictKey rest s) xs r q) in
+        evicted r (pred (ownerOf s r)) (isZero-suc (ownerOf s r) (first-zero (λ r. isNone (ownerOf s r)) (e .registers) r h (m .0))) (m .0) (not-T (member r locked) (m .1))
+
+    go : (f : ℕ) → firstOf (λ r. isNone (ownerOf s r)) (e .registers) ≡ f → TakeView e n locked s (takeFree e rest n locked s f)
+    go zero q = go₂ (best (evictKey rest s) xs) refl q
+    go (suc r) q =
+        let p : T (member r (e .registers)) × (isNone (ownerOf s r) ≡ true) = first-some (λ r. isNone (ownerOf s r)) (e .registers) r q in
+        was-free r (isZero-zero (ownerOf s r) (p .1)) (p .0)
+
+pub record Sixteen (e : Setting) : Type 0 where
+  pub small : (r : ℕ) → T (member r (e .registers)) → r < 16
+
+-- ---- the parts of take
+
+module _ (e : Setting) (home : List ℕ) (wf : Sixteen e) where
+  pub good-place : (n r : ℕ) (s : State) → Good e home s → ownerOf s r ≡ 0 → registerOf s n ≡ 0 → n < length (e .origins) → T (member r (e .registers)) → Good e home (place n r s)
+  unfolding place
+  good-place n r s g hr hn ln mr =
+      record {
+        registers = regs-place (e .registers) (s .holder) (s .owner) (g .registers) n r hr hn (omega (arith, g .holders)) (omega (arith, g .owners, wf .small r mr)) mr;
+        slots = g .slots;
+        holders = rw length-set (g .holders);
+        owners = rw length-set (g .owners);
+        spilleds = g .spilleds;
+        freshes = g .freshes;
+        src = g .src;
+      }
+
+  pub good-vacate : (v r : ℕ) (s : State) → Good e home s → ownerOf s r ≡ suc v → Good e home (vacate v r s)
+  unfolding vacate
+  good-vacate v r s g hr =
+      record {
+        registers = regs-vacate (e .registers) (s .holder) (s .owner) (g .registers) v r hr;
+        slots = g .slots;
+        holders = rw length-set (g .holders);
+        owners = rw length-set (g .owners);
+        spilleds = g .spilleds;
+        freshes = g .freshes;
+        src = g .src;
+      }
+
+  pub good-spill : (v r : ℕ) (s : State) → Good e home s → Good e home (spillOut e v r s)
+  unfolding spillOut
+  good-spill v r s g = go (s .free) refl
+    where
+      go : (f : List ℕ) → s .free ≡ f → Good e home (spillIn e v r f s)
+      go [] q =
+          record {
+            registers = g .registers;
+            slots = slots-new home (e .fixed) (s .spilled) (s .free) (s .slots) (g .slots) v q;
+            holders = g .holders;
+            owners = g .owners;
+            spilleds = rw length-set (g .spilleds);
+            freshes = g .freshes;
+            src = g .src;
+          }
+      go (k ∷ ks) q =
+          record {
+            registers = g .registers;
+            slots = slots-reuse home (e .fixed) (s .spilled) (s .free) (s .slots) (g .slots) v k ks q;
+            holders = g .holders;
+            owners = g .owners;
+            spilleds = rw length-set (g .spilleds);
+            freshes = g .freshes;
+            src = g .src;
+          }
+
+  pub good-release : (n : ℕ) (s : State) → Good e home s → Good e home (release e n s)
+  unfolding release
+  good-release n s g =
+      record {
+        registers = regs-release (e .registers) (s .holder) (s .owner) (g .registers) n;
+        slots = slots-release home (e .fixed) (s .spilled) (s .free) (s .slots) (g .slots) n;
+        holders = rw length-set (g .holders);
+        owners = len (registerOf s n);
+        spilleds = rw length-set (g .spilleds);
+        freshes = g .freshes;
+        src = g .src;
+      }
+    where
+      len : (h : ℕ) → length (disown h (s .owner)) ≡ 16
+      len zero = g .owners
+      len (suc r) = rw length-set (g .owners)
+
+-- what a spill leaves as it was: all but n's slot
+pub record Spilt (n : ℕ) (s s′ : State) : Type 0 where
+  pub holder : s′ .holder ≡ s .holder
+  pub owner : s′ .owner ≡ s .owner
+  pub fresh : s′ .fresh ≡ s .fresh
+  pub slots : s .slots ≤ s′ .slots
+  pub spilled : (k : ℕ) × (s′ .spilled ≡ set (s .spilled) n (suc k))
+  pub grow : length (s′ .steps) ≡ length (s .steps) + 1
+
+pub spilt : (e : Setting) (n r : ℕ) (s : State) → Spilt n s (spillOut e n r s)
+unfolding spillOut
+spilt e n r s = go (s .free)
+  where
+    go : (f : List ℕ) → Spilt n s (spillIn e n r f s)
+    go [] = record { holder = refl; owner = refl; fresh = refl; slots = omega arith; spilled = (s .slots, refl); grow = length-append (s .steps) _ }
+    go (k ∷ ks) = record { holder = refl; owner = refl; fresh = refl; slots = omega arith; spilled = (k, refl); grow = length-append (s .steps) _ }
+
+pub is-suc : (n k : ℕ) → n ≡ suc k → T (isSome n)
+is-suc n k h = rw h tt
+
+pub suc-is : (n : ℕ) → T (isSome n) → n ≡ suc (pred n)
+suc-is zero t = absurd t
+suc-is (suc n) t = omega arith
+
+-- what may be lost of a state: nothing that is at hand, and no locked register's value
+pub record Keeps (locked : List ℕ) (s s′ : State) : Type 0 where
+  pub keep : (m : ℕ) → T (avail s m) → T (avail s′ m)
+  pub lock : (m q : ℕ) → registerOf s m ≡ suc q → T (member q locked) → registerOf s′ m ≡ suc q
+
+pub keeps-trans : (locked : List ℕ) (s t u : State) → Keeps locked s t → Keeps locked t u → Keeps locked s u
+keeps-trans locked s t u a b = record { keep = λ m h. b .keep m (a .keep m h); lock = λ m q h t. b .lock m q (a .lock m q h t) t }
+
+pub keeps-place : (locked : List ℕ) (n r : ℕ) (s : State) → n < length (s .holder) → registerOf s n ≡ 0 → Keeps locked s (place n r s)
+unfolding place
+keeps-place locked n r s ln hn =
+    record {
+      keep = λ m. keep m (ℕ-discrete m n);
+      lock = λ m q h t. getD-set-other (s .holder) n m (suc r) 0 (λ (z : m ≡ n). let y : registerOf s n ≡ suc q = rw z at h in omega arith) ∙ h;
+    }
+  where
+    keep : (m : ℕ) → Dec (m ≡ n) → T (avail s m) → T (isSome (getD (set (s .holder) n (suc r)) m 0) || reloadable s m)
+    keep m (yes z) h = rw (z, getD-set-same (s .holder) n (suc r) 0 ln) tt
+    keep m (no z) h = rw (getD-set-other (s .holder) n m (suc r) 0 z) h
+
+pub keeps-vacate : (locked : List ℕ) (v r : ℕ) (s : State) → T (reloadable s v) → registerOf s v ≡ suc r → (T (member r locked) → ⊥) → Keeps locked s (vacate v r s)
+unfolding vacate
+keeps-vacate locked v r s re hv nl =
+    record {
+      keep = λ m. keep m (ℕ-discrete m v);
+      lock = λ m q h t. getD-set-other (s .holder) v m 0 0 (λ (z : m ≡ v).
+          let y : registerOf s v ≡ suc q = rw z at h in
+          let rq : q ≡ r = omega arith in
+          nl (rw rq at t)) ∙ h;
+    }
+  where
+    keep : (m : ℕ) → Dec (m ≡ v) → T (avail s m) → T (isSome (getD (set (s .holder) v 0) m 0) || reloadable s m)
+    keep m (yes z) h = or-second (isSome (getD (set (s .holder) v 0) m 0)) (reloadable s m) (rw z re)
+    keep m (no z) h = rw (getD-set-other (s .holder) v m 0 0 z) h
+
+pub keeps-spill : (locked : List ℕ) (e : Setting) (v r : ℕ) (s : State) → v < length (s .spilled) → Keeps locked s (spillOut e v r s) × T (reloadable (spillOut e v r s) v)
+keeps-spill locked e v r s lv =
+    let sp : Spilt v s (spillOut e v r s) = spilt e v r s in
+    let k : ℕ = sp .spilled .0 in
+    let now : slotOf (spillOut e v r s) v ≡ suc k = rw (sp .spilled .1) (getD-set-same (s .spilled) v (suc k) 0 lv) in (
+      record {
+        keep = λ m. keep m (ℕ-discrete m v);
+        lock = λ m q h t. rw (sp .holder) h;
+      },
+      rw now tt,
+    )
+  where
+    keep : (m : ℕ) → Dec (m ≡ v) → T (avail s m) → T (avail (spillOut e v r s) m)
+    keep m (yes z) h =
+        let sp : Spilt v s (spillOut e v r s) = spilt e v r s in
+        rw (z, sp .spilled .1, getD-set-same (s .spilled) v (suc (sp .spilled .0)) 0 lv) (or-second (isSome (registerOf (spillOut e v r s) v)) true tt)
+    keep m (no z) h =
+        let sp : Spilt v s (spillOut e v r s) = spilt e v r s in
+        rw (sp .holder, sp .fresh, sp .spilled .1, getD-set-other (s .spilled) v m (suc (sp .spilled .0)) 0 z) h
+
+pub unset : (l : List ℕ) (v m q : ℕ) → getD (set l v 0) m 0 ≡ suc q → getD l m 0 ≡ suc q
+unset l v m q h = go (set-says l v 0 m q h)
+  where
+    go : ((m ≡ v) × (0 ≡ suc q)) ⊎ ((m ≢ v) × (getD l m 0 ≡ suc q)) → getD l m 0 ≡ suc q
+    go (inl p) = absurd (omega arith)
+    go (inr p) = p .1
+
+pub was-set : (l : List ℕ) (n a m q : ℕ) → getD (set l n a) m 0 ≡ suc q → (m ≡ n) ⊎ (getD l m 0 ≡ suc q)
+was-set l n a m q h = go (set-says l n a m q h)
+  where
+    go : ((m ≡ n) × (a ≡ suc q)) ⊎ ((m ≢ n) × (getD l m 0 ≡ suc q)) → (m ≡ n) ⊎ (getD l m 0 ≡ suc q)
+    go (inl p) = inl (p .0)
+    go (inr p) = inr (p .1)
