@@ -38,6 +38,7 @@ begin-good e home =
       spilleds = length-replicate {A = ℕ} (length (e .origins)) 0;
       freshes = length-map (e .origins) hasOrigin;
       src = λ n t. rw (fresh-src (e .origins) n) at t;
+      held = omega arith;
     }
 
 pub begin-inv : (e : Setting) (home : List ℕ) (rest : List (List ℕ)) → Invariant e home [] rest (begin e)

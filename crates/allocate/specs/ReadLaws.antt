@@ -181,6 +181,7 @@ module _ (e : Setting) (home : List ℕ) (wf : Sixteen e) (rest : List (List ℕ
               spilleds = g .spilleds;
               freshes = g .freshes;
               src = g .src;
+              held = g .held;
             };
         held = getD-set-same (set (s .holder) d 0) n (suc r) 0 lh;
         keep = λ m t. keep m t (ℕ-discrete m n) lh;

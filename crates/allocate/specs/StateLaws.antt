@@ -3,22 +3,23 @@ use mathlib.Core.Path.{_∙_, _≡_, refl}
 use mathlib.Core.Logic.{_≢_, _⊎_, inl, inr}
 use mathlib.Core.Bool.{Bool, _||_, false, not, true}
 use mathlib.Core.List.{List, [], _∷_}
-use Prim.Native.Nat.{_+_, _<_, _≤_, pred, suc, zero, ℕ}
+use Prim.Native.Nat.{max, _+_, _<_, _≤_, pred, suc, zero, ℕ}
 use native.Mathlib.Omega.{arith}
 use native.Mathlib.Decide.{ℕ-discrete}
 use lib.ListN.{getD, length, length-append, length-set, set}
 use lib.Seq.{getD-set-other, getD-set-same}
-use lib.Dec.{T}
+use lib.Dec.{T, eqb, eqb→eq}
 use Rattle.tables.specs.Stores.{set-says}
 use Rattle.plan.specs.Origins.{hasOrigin, originAt}
 use Rattle.allocate.specs.State.{Allocated, allocated, allLocked, Setting, State, Taken, registerOf, ownerOf, slotOf, reloadable, spillIn, spillOut, place, vacate, disown, release}
 use Rattle.allocate.specs.Allocator.{evict, evictKey, takeBest, takeFree, takeRegister}
-use Rattle.plan.specs.Lists.{member, filter, firstOf, best, isNone, isSome}
+use Rattle.tables.specs.Tests.{or-pass}
+use Rattle.plan.specs.Lists.{count, member, filter, firstOf, best, isNone, isSome}
 use Rattle.allocate.specs.Invariants.{Regs, Slots, regs-place, regs-vacate, regs-release, slots-new, slots-reuse, slots-release}
 use Rattle.plan.specs.TestLaws.{or-second}
-use Rattle.plan.specs.ListLaws.{filter-member, first-zero, first-some, best-member}
+use Rattle.plan.specs.ListLaws.{Ascending, ascending-ge, filter-member, first-zero, first-some, best-member}
 
-pub record GoodF (e : Setting) (home holder owner spilled : List ℕ) (fresh : List Bool) (free : List ℕ) (count : ℕ) : Type 0 where
+pub record GoodF (e : Setting) (home holder owner spilled : List ℕ) (fresh : List Bool) (free : List ℕ) (count most : ℕ) : Type 0 where
   pub registers : Regs (e .registers) holder owner
   pub slots : Slots home (e .fixed) spilled free count
   pub holders : length holder ≡ length (e .origins)
@@ -26,9 +27,10 @@ pub record GoodF (e : Setting) (home holder owner spilled : List ℕ) (fresh : L
   pub spilleds : length spilled ≡ length (e .origins)
   pub freshes : length fresh ≡ length (e .origins)
   pub src : (n : ℕ) → T (getD fresh n false) → T (hasOrigin (originAt (e .origins) n))
+  pub held : most ≤ length (e .registers)
 
 abbrev pub Good : Setting → List ℕ → State → Type 0
-Good e home s = GoodF e home (s .holder) (s .owner) (s .spilled) (s .fresh) (s .free) (s .slots)
+Good e home s = GoodF e home (s .holder) (s .owner) (s .spilled) (s .fresh) (s .free) (s .slots) (s .most)
 
 -- the value of n is at hand: in a register, in a slot, or fresh in memory
 abbrev pub avail : State → ℕ → Bool
@@ -73,6 +75,43 @@ take-view e rest n locked s = go (firstOf (λ r. isNone (ownerOf s r)) (e .regis
 
 pub record Sixteen (e : Setting) : Type 0 where
   pub small : (r : ℕ) → T (member r (e .registers)) → r < 16
+  pub ascending : Ascending 0 (e .registers)
+
+pub max-le : (a c n : ℕ) → a ≤ n → c ≤ n → max a c ≤ n
+max-le a c n h k = omega arith
+
+-- no more registers are held than there are usable ones
+count-inside : (k : ℕ) (registers owner : List ℕ) → Ascending k registers → ((r n : ℕ) → getD owner r 0 ≡ suc n → T (member (k + r) registers)) → count owner ≤ length registers
+count-inside k registers [] a h = omega arith
+count-inside k [] (zero ∷ xs) a h = count-inside (suc k) [] xs tt (λ r n q. h (suc r) n q)
+count-inside k [] (suc x ∷ xs) a h = absurd (h 0 x refl)
+count-inside k (y ∷ ys) (x ∷ xs) a h = go (ℕ-discrete y k) x refl (λ b f. count-inside (suc k) ys xs b f) (λ b f. count-inside (suc k) (y ∷ ys) xs b f)
+  where
+    Found : List ℕ → Type 0
+    Found l = (r n : ℕ) → getD xs r 0 ≡ suc n → T (member (suc k + r) l)
+
+    later : Found (y ∷ ys)
+    later r n q = let z : k + suc r ≡ suc k + r = omega arith in rw z at (h (suc r) n q)
+
+    -- what is not y is behind it
+    behind : y ≡ k → (r : ℕ) → T (eqb (suc k + r) y) ⊎ T (member (suc k + r) ys) → T (member (suc k + r) ys)
+    behind e r (inl u) = absurd (let z : suc k + r ≡ y = eqb→eq (suc k + r) y u in omega arith)
+    behind e r (inr u) = u
+
+    found : y ≡ k → Found ys
+    found e r n z = behind e r (or-pass (eqb (suc k + r) y) (member (suc k + r) ys) (later r n z))
+
+    go : Dec (y ≡ k) → (w : ℕ) → x ≡ w → (Ascending (suc k) ys → Found ys → count xs ≤ length ys) → (Ascending (suc k) (y ∷ ys) → Found (y ∷ ys) → count xs ≤ suc (length ys))
+        → count (w ∷ xs) ≤ suc (length ys)
+    go (yes e) zero q f g = omega (arith, f (rw e at (a .1)) (found e))
+    go (yes e) (suc w) q f g = omega (arith, f (rw e at (a .1)) (found e))
+    go (no e) zero q f g = g (omega (arith, a .0), a .1) later
+    go (no e) (suc w) q f g =
+        let z : k + 0 ≡ k = omega arith in
+        absurd (omega (arith, ascending-ge y (y ∷ ys) k (omega arith, a .1) (rw z at (h 0 w q)), a .0))
+
+owners-count : (registers owner : List ℕ) → Ascending 0 registers → ((r n : ℕ) → getD owner r 0 ≡ suc n → T (member r registers)) → count owner ≤ length registers
+owners-count registers owner a h = count-inside 0 registers owner a (λ r n q. let z : 0 + r ≡ r = omega arith in rw z (h r n q))
 
 -- ---- the parts of take
 
@@ -80,14 +119,16 @@ module _ (e : Setting) (home : List ℕ) (wf : Sixteen e) where
   pub good-place : (n r : ℕ) (s : State) → Good e home s → ownerOf s r ≡ 0 → registerOf s n ≡ 0 → n < length (e .origins) → T (member r (e .registers)) → Good e home (place n r s)
   unfolding place
   good-place n r s g hr hn ln mr =
+      let placed : Regs (e .registers) (set (s .holder) n (suc r)) (set (s .owner) r (suc n)) = regs-place (e .registers) (s .holder) (s .owner) (g .registers) n r hr hn (omega (arith, g .holders)) (omega (arith, g .owners, wf .small r mr)) mr in
       record {
-        registers = regs-place (e .registers) (s .holder) (s .owner) (g .registers) n r hr hn (omega (arith, g .holders)) (omega (arith, g .owners, wf .small r mr)) mr;
+        registers = placed;
         slots = g .slots;
         holders = rw length-set (g .holders);
         owners = rw length-set (g .owners);
         spilleds = g .spilleds;
         freshes = g .freshes;
         src = g .src;
+        held = max-le (s .most) (count (set (s .owner) r (suc n))) (length (e .registers)) (g .held) (owners-count (e .registers) (set (s .owner) r (suc n)) (wf .ascending) (λ q m h. placed .inside m q h));
       }
 
   pub good-vacate : (v r : ℕ) (s : State) → Good e home s → ownerOf s r ≡ suc v → Good e home (vacate v r s)
@@ -101,6 +142,7 @@ module _ (e : Setting) (home : List ℕ) (wf : Sixteen e) where
         spilleds = g .spilleds;
         freshes = g .freshes;
         src = g .src;
+        held = g .held;
       }
 
   pub good-spill : (v r : ℕ) (s : State) → Good e home s → Good e home (spillOut e v r s)
@@ -117,6 +159,7 @@ module _ (e : Setting) (home : List ℕ) (wf : Sixteen e) where
             spilleds = rw length-set (g .spilleds);
             freshes = g .freshes;
             src = g .src;
+            held = g .held;
           }
       go (k ∷ ks) q =
           record {
@@ -127,6 +170,7 @@ module _ (e : Setting) (home : List ℕ) (wf : Sixteen e) where
             spilleds = rw length-set (g .spilleds);
             freshes = g .freshes;
             src = g .src;
+            held = g .held;
           }
 
   pub good-release : (n : ℕ) (s : State) → Good e home s → Good e home (release e n s)
@@ -140,6 +184,7 @@ module _ (e : Setting) (home : List ℕ) (wf : Sixteen e) where
         spilleds = rw length-set (g .spilleds);
         freshes = g .freshes;
         src = g .src;
+        held = g .held;
       }
     where
       len : (h : ℕ) → length (disown h (s .owner)) ≡ 16

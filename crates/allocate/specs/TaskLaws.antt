@@ -159,6 +159,7 @@ module _ (e : Setting) (home : List ℕ) (wf : Sixteen e) (done : List ℕ) (res
         spilleds = rw length-set (ga .spilleds);
         freshes = ga .freshes;
         src = ga .src;
+        held = ga .held;
       } in
       let l : Good e home (releaseAll e rest reads u) × Let rest u (releaseAll e rest reads u) = releaseAll-let e home wf rest reads u gu in (
         record {
@@ -252,7 +253,7 @@ module _ (e : Setting) (home : List ℕ) (wf : Sixteen e) (rest : List (List ℕ
   stales zero s = record { good = λ g. g; holder = refl; steps = refl; keep = λ m f t. t }
   stales (suc n) s =
       record {
-        good = λ g. record { registers = g .registers; slots = g .slots; holders = g .holders; owners = g .owners; spilleds = g .spilleds; freshes = rw length-set (g .freshes); src = stale-src s n g };
+        good = λ g. record { registers = g .registers; slots = g .slots; holders = g .holders; owners = g .owners; spilleds = g .spilleds; freshes = rw length-set (g .freshes); src = stale-src s n g; held = g .held };
         holder = refl;
         steps = refl;
         keep = λ m f t. stale-keep (s .fresh) n (isSome (registerOf s m)) (isSome (slotOf s m)) m (λ z u. f n refl z u) t;
