@@ -14,18 +14,28 @@ pub post-bind : {A B : Type 0} (R : Type 0) (P : A → Type 0) (Q : B → Type 0
 post-bind R P Q (allocated a) f h k = k a h
 post-bind R P Q allLocked f h k = h
 
-ok-is : {A : Type 0} (a c : A) → allocated a ≡ allocated c → a ≡ c
-ok-is a c h = cc
+pub allocated-is : {A : Type 0} (a c : A) → allocated a ≡ allocated c → a ≡ c
+allocated-is a c h = cc
 
-no-ok : {A B : Type 0} (a : A) → allLocked ≡ allocated a → B
-no-ok a h = let z : _≡_ {A = ℕ} 0 1 = cc in absurd (omega arith)
+pub not-allocated : {A B : Type 0} (a : A) → allLocked ≡ allocated a → B
+not-allocated a h = let z : _≡_ {A = ℕ} 0 1 = cc in absurd (omega arith)
 
 pub post-at : {A : Type 0} (P : A → Type 0) (x : Allocated A) (a : A) → Post (Unit {0}) P x → x ≡ allocated a → P a
-post-at P (allocated c) a p h = subst P (ok-is c a h) p
-post-at P allLocked a p h = no-ok a h
+post-at P (allocated c) a p h = subst P (allocated-is c a h) p
+post-at P allLocked a p h = not-allocated a h
 
 abbrev pub Any : {A : Type 0} → A → Type 0
 Any a = Unit {0}
 
 abbrev pub Sure : {A : Type 0} → Allocated A → Type 0
 Sure m = Post ⊥ Any m
+
+-- two things hold of it
+pub post-and : {A : Type 0} (P Q : A → Type 0) (x : Allocated A) → Post (Unit {0}) P x → Post (Unit {0}) Q x → Post (Unit {0}) (λ a. P a × Q a) x
+post-and P Q (allocated a) p q = (p, q)
+post-and P Q allLocked p q = tt
+
+-- what holds of it implies another
+pub post-map : {A : Type 0} (P Q : A → Type 0) (x : Allocated A) → Post (Unit {0}) P x → ((a : A) → P a → Q a) → Post (Unit {0}) Q x
+post-map P Q (allocated a) p f = f a p
+post-map P Q allLocked p f = tt

@@ -282,3 +282,7 @@ passing-apart p q (x ∷ xs) h = go (p x) (q x) (h x) (passing-apart p q xs h)
     go true false f ih = omega arith
     go false true f ih = omega arith
     go false false f ih = omega arith
+
+pub passing-le : (p : ℕ → Bool) (xs : List ℕ) → passing p xs ≤ length xs
+passing-le p [] = omega arith
+passing-le p (x ∷ xs) = omega (arith, one-more-suc (p x) (passing p xs), passing-le p xs)

@@ -1,0 +1,1 @@
+// Compile: both phases, the kernel as words.
