@@ -11,6 +11,7 @@ use Rattle.tables.specs.Tests.{neither}
 use Rattle.tables.specs.Lists.{list-length}
 use Rattle.tables.specs.Zeros.{zeros, zeros-length}
 use Rattle.answers.specs.Numbers.{Answer, accepted, refused}
+use Rattle.answers.specs.Order.{_⨾_, refuse}
 use Rattle.answers.specs.OrderLaws.{then-accepted, refuse-accepted}
 use Rattle.block.specs.Block.{Block, stateCount, delayCount}
 use Rattle.block.specs.Limits.{mostNodes, mostStates, mostDelays}
@@ -25,7 +26,7 @@ use Rattle.allocate.specs.Outcomes.{allocated-is, not-allocated, post-at}
 use Rattle.compile.specs.Draft.{Draft, usable, compileFlow}
 use Rattle.compile.specs.Words.{Compiled, compiledOf, operationIn, operationsIn, stepWords, instructionWords}
 use Rattle.compile.specs.Compile.{compile}
-use Rattle.compile.specs.Call.{mostSteps, memoryCount, Tables, tables, tooShort, shorter, compileJudged, compiledTables, tablesAfter, compileCall, zeroPast, expansionAfter}
+use Rattle.compile.specs.Call.{mostSteps, memoryCount, Tables, tables, tooShort, shorter, compileJudged, compiledTables, tablesAfter, compileCall, zeroPast, expansionAfter, workWords}
 use Rattle.compile.specs.PhasesFit.{DraftFits, flow-fits, usable-sixteen}
 
 -- ---- the words of a draft
@@ -126,3 +127,64 @@ counts-fit b v mask c h =
       spills = omega (arith, f .steps, f .spills);
       registers = omega (arith, f .sixteen);
     }
+
+-- ---- A CALL leaves every lent table as long as it was
+
+pub record SameLengths (t after : Tables) : Type 0 where
+  pub expansion : length (after .expansion) ≡ length (t .expansion)
+  pub steps : length (after .steps) ≡ length (t .steps)
+  pub instructions : length (after .instructions) ≡ length (t .instructions)
+  pub work : length (after .work) ≡ length (t .work)
+
+-- the tables are long enough
+pub record Room (b : Block) (t : Tables) : Type 0 where
+  pub expansion : 3 * expandedLength b ≤ length (t .expansion)
+  pub steps : 2 * mostSteps (expandedLength b) (memoryCount b) ≤ length (t .steps)
+  pub instructions : 2 * mostSteps (expandedLength b) (memoryCount b) ≤ length (t .instructions)
+  pub work : workWords (expandedLength b) (memoryCount b) ≤ length (t .work)
+
+pub room : (b : Block) (t : Tables) → tooShort b t ≡ false → Room b t
+unfolding shorter
+room b t e =
+    let p = neither _ (ltb (length (t .work)) (workWords (expandedLength b) (memoryCount b))) e in
+    let q = neither _ (ltb (length (t .instructions)) (2 * mostSteps (expandedLength b) (memoryCount b))) (p .0) in
+    let r = neither (ltb (length (t .expansion)) (3 * expandedLength b)) (ltb (length (t .steps)) (2 * mostSteps (expandedLength b) (memoryCount b))) (q .0) in
+    record { expansion = ltb-false _ _ (r .0); steps = ltb-false _ _ (r .1); instructions = ltb-false _ _ (q .1); work = ltb-false _ _ (p .1) }
+
+padded : (words table : List ℕ) → length words ≤ length table → length (zeroPast words table) ≡ length table
+padded words table h = omega (arith, length-append words (zeros (length table - length words)), zeros-length (length table - length words))
+
+graph-words : (b : Block) → Valid b → length (graphOf b .nodes) ≡ 3 * expandedLength b
+unfolding graphOf
+graph-words b v = good-graph b v .long
+
+expanded : (b : Block) → Valid b → (table : List ℕ) → 3 * expandedLength b ≤ length table → length (expansionAfter b table) ≡ length table
+expanded b v table h =
+    omega (arith, graph-words b v, length-append (graphOf b .nodes) (drop (3 * expandedLength b) table), length-drop (3 * expandedLength b) table)
+
+compiled-lengths : (b : Block) → Valid b → (mask : ℕ) (t : Tables) → Room b t → (r : Allocated Compiled) → compile (graphOf b) mask ≡ r → SameLengths t (compiledTables r b t)
+compiled-lengths b v mask t q (allocated c) e =
+    let f = compile-bounds b v mask c e in
+    record {
+      expansion = expanded b v (t .expansion) (q .expansion);
+      steps = padded (c .steps) (t .steps) (omega (arith, f .steps, f .stepTable, q .steps));
+      instructions = padded (c .instructions) (t .instructions) (omega (arith, f .steps, f .instructions, f .instructionTable, q .instructions));
+      work = zeros-length (length (t .work));
+    }
+compiled-lengths b v mask t q allLocked e =
+    record {
+      expansion = expanded b v (t .expansion) (q .expansion);
+      steps = zeros-length (length (t .steps));
+      instructions = zeros-length (length (t .instructions));
+      work = zeros-length (length (t .work));
+    }
+
+pub call-lengths : (b : Block) (mask : ℕ) (t : Tables) → SameLengths t (compileCall b mask t .tables)
+unfolding compileCall compileJudged tablesAfter
+call-lengths b mask t = go (validation b ⨾ refuse 13 (tooShort b t)) refl
+  where
+    go : (a : Answer Unit) → (validation b ⨾ refuse 13 (tooShort b t)) ≡ a → SameLengths t (tablesAfter a (compile (graphOf b) mask) b t)
+    go (accepted u) e =
+        let p = then-accepted (validation b) (refuse 13 (tooShort b t)) e in
+        compiled-lengths b (valid b (p .0)) mask t (room b t (refuse-accepted 13 (tooShort b t) (p .1))) (compile (graphOf b) mask) refl
+    go (refused n vs) e = record { expansion = refl; steps = refl; instructions = refl; work = refl }

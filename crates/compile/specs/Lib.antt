@@ -6,3 +6,4 @@ pub mod Gives
 pub mod PhasesFit
 pub mod Call
 pub mod Bounds
+pub mod RustCompile
