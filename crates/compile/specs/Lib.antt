@@ -7,3 +7,4 @@ pub mod PhasesFit
 pub mod Call
 pub mod Bounds
 pub mod RustCompile
+pub mod Kernels
