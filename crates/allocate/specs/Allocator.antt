@@ -4,11 +4,11 @@ use mathlib.Core.List.{List, [], _++_, _∷_, map}
 use Prim.Native.Nat.{_+_, _-_, pred, suc, zero, ℕ}
 use lib.ListN.{getD, length, set}
 use lib.Dec.{eqb}
-use Rattle.allocate.specs.Actions.{Operation, loadImmediate, binary, unary, storeControl, loadAction, storeAction}
 use Rattle.plan.specs.Lists.{member, filter, firstOf, best, isNone}
 use Rattle.plan.specs.Nodes.{Node, nodeAt, inputNode, networkNode, constantNode, parameterNode, stateNode, delayNode, binaryNode, unaryNode}
 use Rattle.plan.specs.Origins.{Origin, originAt, homeOf, noOrigin, immediate, loaded}
 use Rattle.plan.specs.Schedule.{Task, taskReads, computeTask, keepTask, storeTask}
+use Rattle.allocate.specs.Actions.{Operation, loadImmediate, binary, unary, storeControl, loadAction, storeAction}
 use Rattle.allocate.specs.State.{Allocated, allocated, allLocked, andThen, Setting, State, Taken, TakenAll, registerOf, ownerOf, slotOf, isFresh, reloadable, emit, emitOperation, fromSlot, spillOut, place, vacate, release}
 
 -- how far off is the node's next read among the reads of the ops to come; their number, if there is none

@@ -6,13 +6,13 @@ use Prim.Native.Nat.{suc, ℕ}
 use native.Mathlib.Omega.{arith}
 use lib.ListN.{List·getD-map, getD, length, length-map, length-replicate, replicate}
 use Rattle.plan.specs.Origins.{Origin, noOrigin, hasOrigin, originAt}
-use Rattle.allocate.specs.State.{Setting, begin}
 use Rattle.plan.specs.Lists.{isSome}
 use Rattle.plan.specs.TestLaws.{or-second}
-use Rattle.allocate.specs.StateLaws.{Good}
-use Rattle.allocate.specs.TaskLaws.{Invariant}
 use Rattle.plan.specs.Planned.{slots}
 use Rattle.plan.specs.ListLaws.{zeros-at}
+use Rattle.allocate.specs.State.{Setting, begin}
+use Rattle.allocate.specs.StateLaws.{Good}
+use Rattle.allocate.specs.TaskLaws.{Invariant}
 
 fresh-src : (xs : List Origin) (n : ℕ) → getD (map hasOrigin xs) n false ≡ hasOrigin (originAt xs n)
 fresh-src xs n = List·getD-map hasOrigin xs n noOrigin

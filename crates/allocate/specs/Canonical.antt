@@ -9,13 +9,13 @@ use lib.ListN.{getD, set}
 use lib.Dec.{T, eqb, eqb-refl, eqb→eq}
 use Rattle.tables.specs.Tests.{or-pass}
 use Rattle.plan.specs.Origins.{Origin, noOrigin, immediate, loaded, originAt, homeOf, isLoad, canonical, canonicalAs}
-use Rattle.allocate.specs.State.{Setting}
 use Rattle.plan.specs.Lists.{member}
 use Rattle.plan.specs.Nodes.{operands, nodeAt}
 use Rattle.plan.specs.Schedule.{Task, computeTask, keepTask, storeTask, taskReads}
 use Rattle.plan.specs.TestLaws.{and-both}
 use Rattle.plan.specs.ListLaws.{member-map}
 use Rattle.plan.specs.OriginLaws.{home-finds, origin-inside, home-origin}
+use Rattle.allocate.specs.State.{Setting}
 
 -- n is the first of its source
 abbrev pub Canonical : Setting → ℕ → Type 0

@@ -9,9 +9,9 @@ use lib.ListN.{getD, length, length-append}
 use lib.Seq.{getD-set-other, getD-set-same}
 use lib.Dec.{T}
 use Rattle.plan.specs.Origins.{Origin, noOrigin, immediate, loaded, originAt}
+use Rattle.plan.specs.Lists.{member}
 use Rattle.allocate.specs.State.{Allocated, Setting, State, Taken, registerOf, ownerOf, slotOf, isFresh, reloadable, emit, emitOperation, fromSlot, spillOut, place, vacate}
 use Rattle.allocate.specs.Allocator.{spillIf, evict, takeRegister, bringFrom, bringIf, bring, fetchHeld, fetch}
-use Rattle.plan.specs.Lists.{member}
 use Rattle.allocate.specs.Actions.{Action, Operation, compute, loadImmediate, loadAction}
 use Rattle.allocate.specs.Outcomes.{Post, post-bind}
 use Rattle.allocate.specs.Invariants.{some-lt}

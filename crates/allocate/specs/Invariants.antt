@@ -12,8 +12,8 @@ use lib.Dec.{T, eqb, eqb-refl, eqb→eq, leb, leb→le}
 use Rattle.tables.specs.Tests.{or-pass}
 use Rattle.tables.specs.Stores.{set-says}
 use Rattle.plan.specs.Lists.{member}
-use Rattle.allocate.specs.State.{giveBack, disown}
 use Rattle.plan.specs.TestLaws.{or-first, or-second}
+use Rattle.allocate.specs.State.{giveBack, disown}
 
 -- ---- tables of 0 or n+1
 

@@ -7,12 +7,12 @@ use native.Mathlib.Omega.{arith}
 use lib.ListN.{length, length-append}
 use Rattle.plan.specs.Nodes.{nodeAt}
 use Rattle.plan.specs.Schedule.{Task, computeTask, keepTask, storeTask, taskReads}
-use Rattle.allocate.specs.State.{Setting, State, TakenAll, ownerOf, registerOf, isFresh}
-use Rattle.allocate.specs.Allocator.{takeRegister, takeFree, evictKey, fetch, fetchHeld, fetchAll, resultRegister, runCompute, runKeep, runStore, runTask, preserve, preserveIf, readLater, homeCode, allocateTask, readsOf, allocate}
 use Rattle.plan.specs.Lists.{member, filter, firstOf, best, isNone}
 use Rattle.plan.specs.Origins.{homeOf}
 use Rattle.plan.specs.ListLaws.{best-suc, Ascending, unlocked, filter-length}
 use Rattle.plan.specs.Reached.{two-operands}
+use Rattle.allocate.specs.State.{Setting, State, TakenAll, ownerOf, registerOf, isFresh}
+use Rattle.allocate.specs.Allocator.{takeRegister, takeFree, evictKey, fetch, fetchHeld, fetchAll, resultRegister, runCompute, runKeep, runStore, runTask, preserve, preserveIf, readLater, homeCode, allocateTask, readsOf, allocate}
 use Rattle.allocate.specs.Outcomes.{Post, post-bind, Any, Sure}
 
 pub reads-two : (e : Setting) (o : Task) → length (taskReads (e .nodes) (e .origins) o) ≤ 2

@@ -10,15 +10,15 @@ use lib.ListN.{getD, length, length-set, set}
 use lib.Seq.{append-snoc, getD-set-other, getD-set-same, set-set}
 use lib.Dec.{T, eqb, eqb-refl, eqb→eq}
 use Rattle.tables.specs.Tests.{or-pass}
+use Rattle.plan.specs.Lists.{member, firstOf, isSome}
+use Rattle.plan.specs.TestLaws.{or-first, or-second}
+use Rattle.plan.specs.ListLaws.{first-some}
 use Rattle.allocate.specs.State.{Allocated, allocated, allLocked, Setting, State, Taken, TakenAll, registerOf, ownerOf, reloadable, release}
 use Rattle.allocate.specs.Allocator.{takeRegister, fetch, fetchAll, releaseIf, releaseAll, readLater, lend, resultRegister}
-use Rattle.plan.specs.Lists.{member, firstOf, isSome}
 use Rattle.allocate.specs.Outcomes.{Post, post-bind}
 use Rattle.allocate.specs.Invariants.{regs-place, regs-vacate, some-lt}
-use Rattle.plan.specs.TestLaws.{or-first, or-second}
 use Rattle.allocate.specs.StateLaws.{Good, avail, Sixteen, Keeps, good-release, unset, was-set, suc-is}
 use Rattle.allocate.specs.FetchLaws.{Took, take-took, Fetched, fetch-fetched}
-use Rattle.plan.specs.ListLaws.{first-some}
 
 -- node by node, the registers that hold them
 abbrev pub Holds : State → List ℕ → List ℕ → Type 0

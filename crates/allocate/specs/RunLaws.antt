@@ -12,15 +12,15 @@ use Rattle.tables.specs.Tests.{or-pass}
 use Rattle.plan.specs.Origins.{hasOrigin, originAt, canonical}
 use Rattle.plan.specs.Lists.{member, isSome}
 use Rattle.plan.specs.Schedule.{Task, computeTask, keepTask, storeTask, taskReads}
+use Rattle.plan.specs.TestLaws.{or-first, or-second}
+use Rattle.plan.specs.OriginLaws.{home-known}
 use Rattle.allocate.specs.State.{Allocated, allocated, allLocked, andThen, Setting, State, TakenAll, registerOf}
 use Rattle.allocate.specs.Allocator.{readLater, homeCode, fetchAll, runTask, runCompute, runKeep, runStore, allocateTask, readsOf, allocate}
 use Rattle.allocate.specs.Outcomes.{Post, post-bind}
 use Rattle.allocate.specs.Pressure.{reads-two}
-use Rattle.plan.specs.TestLaws.{or-first, or-second}
 use Rattle.allocate.specs.StateLaws.{Good, Sixteen}
 use Rattle.allocate.specs.ReadLaws.{FetchedAll, fetchAll-fetched}
 use Rattle.allocate.specs.TaskLaws.{Invariant, ReadsOk, Next, known, compute-next, keep-next, store-next}
-use Rattle.plan.specs.OriginLaws.{home-known}
 
 pub reads-keep : (e : Setting) (k v : ℕ) → taskReads (e .nodes) (e .origins) (keepTask k v) ≡ canonical (e .origins) v ∷ []
 unfolding taskReads

@@ -10,16 +10,16 @@ use lib.ListN.{getD, length, set}
 use lib.Dec.{T, eqb, eqb-refl, eqb→eq}
 use Rattle.tables.specs.Stores.{set-says}
 use Rattle.tables.specs.Tests.{or-pass}
-use Rattle.allocate.specs.Actions.{compute, Action, Operation, storeControl, storeAction, loadAction, loadImmediate}
 use Rattle.plan.specs.Lists.{member, filter, firstOf, better, best, countUp, isNone}
 use Rattle.plan.specs.Nodes.{nodeAt}
 use Rattle.plan.specs.Origins.{Origin, noOrigin, immediate, loaded, hasOrigin, isLoad, originAt, homeOf}
 use Rattle.plan.specs.Schedule.{Task, computeTask, keepTask, storeTask, taskReads}
+use Rattle.plan.specs.TestLaws.{or-first, or-second}
+use Rattle.plan.specs.ListLaws.{filter-member, best-member, zeros-at}
+use Rattle.allocate.specs.Actions.{compute, Action, Operation, storeControl, storeAction, loadAction, loadImmediate}
 use Rattle.allocate.specs.State.{Allocated, allocated, allLocked, andThen, Setting, State, Taken, TakenAll, registerOf, ownerOf, slotOf, isFresh, reloadable, emit, emitOperation, fromSlot, spillIn, spillOut, place, vacate, disown, release, begin}
 use Rattle.allocate.specs.Allocator.{readLater, spillIf, evict, evictKey, takeBest, takeFree, takeRegister, bringFrom, bringIf, bring, fetchHeld, fetch, fetchAll, releaseIf, releaseAll, lend, resultRegister, lower, runCompute, setSlot, runKeep, stale, homeCode, preserveIf, preserve, runStore, runTask, allocateTask, readsOf, allocate}
 use Rattle.allocate.specs.Outcomes.{Post}
-use Rattle.plan.specs.TestLaws.{or-first, or-second}
-use Rattle.plan.specs.ListLaws.{filter-member, best-member, zeros-at}
 use Rattle.allocate.specs.StateLaws.{unset}
 use Rattle.allocate.specs.TaskLaws.{known}
 use Rattle.allocate.specs.RunLaws.{TasksOk}

@@ -7,9 +7,9 @@ use native.Mathlib.Omega.{arith}
 use lib.ListN.{length}
 use lib.Dec.{leb, leb→le, le→leb}
 use Rattle.plan.specs.Lists.{member}
+use Rattle.plan.specs.TestLaws.{same-test}
 use Rattle.allocate.specs.State.{State, ownerOf, reloadable}
 use Rattle.allocate.specs.Allocator.{distance, readLater, evictKey}
-use Rattle.plan.specs.TestLaws.{same-test}
 
 -- codegen.rs: `next_read(node).unwrap_or(usize::MAX)`: the first op from position k on that reads node n, else `top`
 abbrev pub nextRead : ℕ → ℕ → List (List ℕ) → ℕ → ℕ

@@ -11,16 +11,16 @@ use Rattle.tables.specs.Tests.{or-pass}
 use Rattle.plan.specs.Nodes.{Flow, Node, operands, nodeAt}
 use Rattle.plan.specs.Origins.{controlOrigin, Origin, noOrigin, hasOrigin, originAt, canonical}
 use Rattle.plan.specs.Schedule.{writesFrom, writes, Task, computeTask, keepTask, storeTask, taskReads, Write, waits, tasksOf, scheduleFrom, schedule, controlTask, controlTasks}
-use Rattle.allocate.specs.State.{Setting}
 use Rattle.plan.specs.Lists.{member, filter, anyOf, count}
 use Rattle.plan.specs.Hoist.{number}
 use Rattle.plan.specs.ListLaws.{Ascending, member-map, any-no, ascending-ge}
 use Rattle.plan.specs.TestLaws.{or-first, or-second}
 use Rattle.plan.specs.OriginLaws.{number-lt, number-inj, sample-length, control-at, control-computed, no-origin, canonical-origin, canonical-computed}
 use Rattle.plan.specs.Planned.{GoodFlow, AllWrites, all-filter, all-append, ss, cs, slots, homes, homes-length, comps, comps-in, comp-plain, ccomps, ccomps-in, need-root, need-closed, value, write-values, cvalue, root-output, root-state, root-delay, sample-ascending, control-ascending}
+use Rattle.plan.specs.Reached.{Ordered, sweep-closed}
+use Rattle.allocate.specs.State.{Setting}
 use Rattle.allocate.specs.TaskLaws.{ReadsOk, known}
 use Rattle.allocate.specs.RunLaws.{TasksOk, HomesOk}
-use Rattle.plan.specs.Reached.{Ordered, sweep-closed}
 
 pub number-ok : (fs : List Bool) → HomesOk (number 0 fs) (count (number 0 fs))
 number-ok fs = record { lt = λ n k h. omega (arith, number-lt 0 fs n k h .2); inj = λ m l k. number-inj 0 fs m l k }

@@ -5,10 +5,10 @@ use Prim.Native.Nat.{max, suc, zero, ℕ}
 use lib.ListN.{getD, length, replicate, set}
 use lib.Dec.{leb}
 use Rattle.kernel.specs.declared.Source.the-variants as Source
-use Rattle.allocate.specs.Actions.{Operation, Action, load, compute, spill, reload, storeControl}
 use Rattle.plan.specs.Lists.{count, isSome}
 use Rattle.plan.specs.Nodes.{Node}
 use Rattle.plan.specs.Origins.{Origin, hasOrigin}
+use Rattle.allocate.specs.Actions.{Operation, Action, load, compute, spill, reload, storeControl}
 
 -- an answer, or 14: an operation needs a register and every usable one is locked
 pub data Allocated (A : Type 0) : Type 0 where

@@ -10,14 +10,14 @@ use lib.ListN.{getD, length, length-append, length-set, set}
 use lib.Seq.{getD-set-other, getD-set-same}
 use lib.Dec.{T, eqb, eqb→eq}
 use Rattle.tables.specs.Stores.{set-says}
-use Rattle.plan.specs.Origins.{hasOrigin, originAt}
-use Rattle.allocate.specs.State.{Allocated, allocated, allLocked, Setting, State, Taken, registerOf, ownerOf, slotOf, reloadable, spillIn, spillOut, place, vacate, disown, release}
-use Rattle.allocate.specs.Allocator.{evict, evictKey, takeBest, takeFree, takeRegister}
 use Rattle.tables.specs.Tests.{or-pass}
+use Rattle.plan.specs.Origins.{hasOrigin, originAt}
 use Rattle.plan.specs.Lists.{count, member, filter, firstOf, best, isNone, isSome}
-use Rattle.allocate.specs.Invariants.{Regs, Slots, regs-place, regs-vacate, regs-release, slots-new, slots-reuse, slots-release}
 use Rattle.plan.specs.TestLaws.{or-second}
 use Rattle.plan.specs.ListLaws.{Ascending, ascending-ge, filter-member, first-zero, first-some, best-member}
+use Rattle.allocate.specs.State.{Allocated, allocated, allLocked, Setting, State, Taken, registerOf, ownerOf, slotOf, reloadable, spillIn, spillOut, place, vacate, disown, release}
+use Rattle.allocate.specs.Allocator.{evict, evictKey, takeBest, takeFree, takeRegister}
+use Rattle.allocate.specs.Invariants.{Regs, Slots, regs-place, regs-vacate, regs-release, slots-new, slots-reuse, slots-release}
 
 pub record GoodF (e : Setting) (home holder owner spilled : List ℕ) (fresh : List Bool) (free : List ℕ) (count most : ℕ) : Type 0 where
   pub registers : Regs (e .registers) holder owner

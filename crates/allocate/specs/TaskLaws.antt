@@ -13,12 +13,12 @@ use lib.Dec.{T, eqb, eqb-refl, eqb→eq}
 use Rattle.tables.specs.Tests.{or-pass}
 use Rattle.plan.specs.Origins.{hasOrigin, originAt, homeOf}
 use Rattle.plan.specs.Nodes.{nodeAt}
+use Rattle.plan.specs.Lists.{member, firstOf, isSome}
+use Rattle.plan.specs.TestLaws.{or-first, or-second}
 use Rattle.allocate.specs.State.{Setting, State, Taken, TakenAll, registerOf, slotOf, isFresh, reloadable, emit, emitOperation}
 use Rattle.allocate.specs.Allocator.{fetch, releaseAll, readLater, resultRegister, lower, runCompute, setSlot, runKeep, stale, homeCode, preserveIf, preserve, runStore}
-use Rattle.plan.specs.Lists.{member, firstOf, isSome}
 use Rattle.allocate.specs.Actions.{Action, Operation, storeControl, storeAction}
 use Rattle.allocate.specs.Outcomes.{Post, post-bind}
-use Rattle.plan.specs.TestLaws.{or-first, or-second}
 use Rattle.allocate.specs.Invariants.{slots-home}
 use Rattle.allocate.specs.StateLaws.{Good, avail, Sixteen, Keeps}
 use Rattle.allocate.specs.FetchLaws.{Fetched, fetch-fetched, Brought, brought-emit, brought-operation, keeps-brought}

@@ -3,11 +3,11 @@ use mathlib.Core.Bool.{Bool, false, true}
 use mathlib.Core.List.{List}
 use Prim.Native.Nat.{_%_, _/_, _^_, max, ℕ}
 use lib.Dec.{eqb}
-use Rattle.allocate.specs.Actions.{Action}
 use Rattle.plan.specs.Lists.{filter, countUp}
 use Rattle.plan.specs.Nodes.{Flow}
 use Rattle.plan.specs.Origins.{sampleOrigins}
 use Rattle.plan.specs.Schedule.{controlTasks, Plan, planOf}
+use Rattle.allocate.specs.Actions.{Action}
 use Rattle.allocate.specs.State.{Allocated, andThen, Setting, State, begin, allocated}
 use Rattle.allocate.specs.Allocator.{allocate}
 

@@ -1,17 +1,17 @@
 -- Document 01, "Small kernels": the starred ones that compile answers, as one proved statement, `starred-kernels`. Assumes nothing.
-use mathlib.Core.Path.{_≡_, refl, ap, _∙_}
-use mathlib.Core.Bool.{Bool, true, false}
+use mathlib.Core.Path.{_≡_, refl}
+use mathlib.Core.Bool.{false}
 use mathlib.Core.List.{List, [], _∷_, _++_}
-use lib.ListN.{length}
 use Prim.Native.Nat.{ℕ}
+use lib.ListN.{length}
 use lib.Count.{trailingZeros}
 use lib.Ieee as Ieee
 use lib.Ieee.{round, sub, le, neg, odd, units, size, span, climb, ofFields, ofBits}
 use Rattle.tables.specs.Loops as Loops
-use Rattle.answers.specs.Numbers.{Answer, accepted, refused}
-use Rattle.answers.specs.Order.{_⨾_, refuse, refuseAt, inOrder}
-use Rattle.words.specs.Operations.{floatOf, isFinite, within, validSpan, spanIsValid}
 use Rattle.tables.specs.Lists.{listOf}
+use Rattle.words.specs.Operations.{floatOf, isFinite, within, validSpan, spanIsValid}
+use Rattle.answers.specs.Numbers.{accepted, refused}
+use Rattle.answers.specs.Order.{_⨾_, refuse, refuseAt, inOrder}
 use Rattle.block.specs.declared.Header.{Header}
 use Rattle.block.specs.Block.{Block, block}
 use Rattle.block.specs.Kinds.{kindOf, nodeLength}
@@ -19,7 +19,6 @@ use Rattle.block.specs.Limits.{codeNeedsTwo, categoryNeedsTwo}
 use Rattle.block.specs.Validation.{malformedNode, malformedHeader, malformed, unknownVersion, networkNotAllowed, networkFlagClear, needsVersionTwo, tooLarge, parameterAnswer, operandNotBelow, wordsAnswer, nodeAnswer, stateAnswer, delayAnswer, recordsAnswer, validation}
 use Rattle.expand.specs.Expansion.{expandNode, expandTo}
 use Rattle.expand.specs.Graph.{graphOf}
-use Rattle.kernel.specs.declared.Kernel.{Kernel}
 use Rattle.kernel.specs.declared.Source.the-variants as Source
 use Rattle.kernel.specs.declared.Step.{Step}
 use Rattle.kernel.specs.declared.Step.the-variants.{Load, Compute, StoreState, StoreOutput, StoreControl}
@@ -38,7 +37,7 @@ use Rattle.allocate.specs.Allocator.{evict, evictKey, takeRegister, bringFrom, 
 use Rattle.compile.specs.Draft.{usable, controlSetting, sampleSetting, draftOf, compilePlan, compileFlow}
 use Rattle.compile.specs.Words.{Compiled, compiledOf}
 use Rattle.compile.specs.Compile.{compile}
-use Rattle.compile.specs.Call.{Tables, tooShort, compiledAnswer, compileAnswer, compileJudged, compiledTables, tablesAfter, Outcome, outcome, compileCall}
+use Rattle.compile.specs.Call.{Tables, tooShort, compiledAnswer, compileAnswer, compileJudged, compiledTables, tablesAfter, outcome, compileCall}
 
 -- ---- the blocks: version 1, category 10, stereo
 

@@ -15,15 +15,15 @@ use Rattle.plan.specs.Nodes.{Node, Flow, roots}
 use Rattle.plan.specs.Hoist.{invariants, number, hoistable, neededBy, homesOf, controlComputations}
 use Rattle.plan.specs.Origins.{Origin, controlOrigin, sampleOrigins}
 use Rattle.plan.specs.Schedule.{Plan, planOf, controlTasks, sampleComputations, writes}
-use Rattle.allocate.specs.State.{Allocated, allocated, allLocked, andThen, Setting, State, begin}
-use Rattle.allocate.specs.Allocator.{allocate}
-use Rattle.compile.specs.Draft.{Draft, usable, controlSetting, sampleSetting, draftOf, compilePlan, compileFlow}
 use Rattle.plan.specs.Planned.{GoodFlow, inv, need, homes, slots, ss, cs, cneed, ccomps}
-use Rattle.allocate.specs.Scheduled.{settingOf, sample-tasks-ok, control-tasks-ok}
 use Rattle.plan.specs.Worklist.{reachable}
 use Rattle.plan.specs.Ordinals.{ordinalSchedule}
 use Rattle.plan.specs.RustPlan.{sample-needed, control-needed, sample-schedule}
+use Rattle.allocate.specs.State.{Allocated, allocated, allLocked, andThen, Setting, State, begin}
+use Rattle.allocate.specs.Allocator.{allocate}
+use Rattle.allocate.specs.Scheduled.{settingOf, sample-tasks-ok, control-tasks-ok}
 use Rattle.allocate.specs.RustAllocator.{allocateAll, withFresh, Alike, allocate-same}
+use Rattle.compile.specs.Draft.{Draft, usable, controlSetting, sampleSetting, draftOf, compilePlan, compileFlow}
 
 -- the plan, from what the sample phase reaches
 abbrev planFrom : Flow → List Bool → Plan

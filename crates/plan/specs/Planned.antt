@@ -1,16 +1,15 @@
 -- What a good flow plans. Assumes nothing.
 use mathlib.Core.Path.{_∙_, _≡_, ap, refl}
 use mathlib.Core.Logic.{_⊎_, inl, inr}
-use mathlib.Core.Bool.{Bool, _&&_, _||_, cond, false, not, true}
+use mathlib.Core.Bool.{Bool, _&&_, cond, false, not, true}
 use mathlib.Core.List.{List, [], _++_, _∷_, map}
 use Prim.Native.Nat.{_+_, _<_, suc, zero, ℕ}
 use native.Mathlib.Omega.{arith}
 use lib.ListN.{getD, length, length-map, length-replicate, replicate}
 use lib.Dec.{T, eqb, eqb-refl}
-use Rattle.tables.specs.Tests.{or-pass}
 use Rattle.plan.specs.Nodes.{Node, operands, isComputed, nodeAt, Flow, updatesOf, roots}
 use Rattle.plan.specs.Origins.{Origin, noOrigin, hasOrigin, originAt, controlOrigin, sampleOrigin, sampleOrigins}
-use Rattle.plan.specs.Schedule.{Write, writesFrom, schedule, controlTasks, sampleComputations, writes}
+use Rattle.plan.specs.Schedule.{Write, writesFrom, sampleComputations}
 use Rattle.plan.specs.Lists.{member, filter, countUp}
 use Rattle.plan.specs.Hoist.{number, hoistable, neededBy, homesOf, controlComputations, invariants, markAll, sweep}
 use Rattle.plan.specs.ListLaws.{Ascending, ascending-filter, filter-member, count-up-below, member-filter, count-up-member, count-up-length, flag-inside, flags-at, member-left, member-right}

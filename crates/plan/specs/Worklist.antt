@@ -14,7 +14,6 @@ use Rattle.plan.specs.Lists.{member}
 use Rattle.plan.specs.Nodes.{Node, operands, nodeAt}
 use Rattle.plan.specs.Hoist.{markAll, sweep}
 use Rattle.plan.specs.TestLaws.{or-first, or-second}
-
 use Rattle.plan.specs.ListLaws.{flag-inside, member-append, member-left, member-right, none-seen}
 use Rattle.plan.specs.Reached.{two-operands, Ordered, mark-in, mark-inv, length-markAll, length-sweep, sweep-mono, sweep-all, sweep-closed}
 
