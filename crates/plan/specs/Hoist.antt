@@ -1,56 +1,65 @@
--- H
-use mathlib.Core.Bool.{Bool, _&&_, cond, false, not, true}
-use mathlib.Core.List.{List, [], _++_, _∷_, map}
-use Prim.Native.Nat.{suc, zero, ℕ}
-use lib.ListN.{getD, length, replicate, set}
+-- What is hoisted into the control phase, and what each phase reaches (document 01, module 3; codegen.rs, the first half of `compile_with`).
+-- Tables of flags have one for each node. Definitions alone.
+use mathlib.Core.Bool.{Bool, true, false, not, cond, _&&_}
+use mathlib.Core.List.{List, [], _∷_, _++_, map}
+use Prim.Native.Nat.{ℕ, zero, suc}
+use lib.ListN.{length, getD, set, replicate}
 use Rattle.plan.specs.Lists.{filter, countUp}
 use Rattle.plan.specs.Nodes.{Node, Flow, operands, isComputed, nodeAt, roots, inputNode, networkNode, constantNode, parameterNode, stateNode, delayNode, binaryNode, unaryNode}
 
--- is the node of constants and parameters alone, given the flags of those before it (codegen.rs: `invariant`)
+-- ---- "from constants and parameters alone"
+
+-- is the node, given the flags of those before it
 abbrev pub invariantNode : Node → List Bool → Bool
-invariantNode inputNode fl = false
-invariantNode networkNode fl = false
-invariantNode (constantNode b) fl = true
-invariantNode (parameterNode i) fl = true
-invariantNode (stateNode i) fl = false
-invariantNode (delayNode i) fl = false
-invariantNode (binaryNode k a b) fl = getD fl a false && getD fl b false
-invariantNode (unaryNode k a) fl = getD fl a false
+invariantNode inputNode flags = false
+invariantNode networkNode flags = false
+invariantNode (constantNode bits) flags = true
+invariantNode (parameterNode index) flags = true
+invariantNode (stateNode index) flags = false
+invariantNode (delayNode index) flags = false
+invariantNode (binaryNode code lhs rhs) flags = getD flags lhs false && getD flags rhs false
+invariantNode (unaryNode code input) flags = getD flags input false
 
--- those flags for all nodes, in order
+-- codegen.rs: `invariant`: the flags of the nodes so far, and then of these
 unfoldable pub invariants : List Node → List Bool → List Bool
-invariants [] fl = fl
-invariants (x ∷ xs) fl = invariants xs (fl ++ (invariantNode x fl ∷ []))
+invariants [] flags = flags
+invariants (node ∷ nodes) flags = invariants nodes (flags ++ (invariantNode node flags ∷ []))
 
--- mark each node of the list
+-- codegen.rs: `hoisted`: invariant, and computed
+unfoldable pub hoistable : List Node → List Bool → ℕ → Bool
+hoistable nodes invariant n = getD invariant n false && isComputed (nodeAt nodes n)
+
+-- ---- what a phase reaches
+
+-- the flags with each node of a list marked
 abbrev pub markAll : List ℕ → List Bool → List Bool
-markAll [] m = m
-markAll (n ∷ ns) m = markAll ns (set m n true)
+markAll [] marks = marks
+markAll (n ∷ list) marks = markAll list (set marks n true)
 
--- codegen.rs: `reachable`. Nodes k - 1 .. 0 in turn: a marked node through which the walk goes down marks its operands, which lie below it
+-- codegen.rs: `reachable`. Operands stand before their node, so one sweep from the last node to the first reaches all: a marked node through which the
+-- walk goes down marks its operands. The Rust's own form, with a stack, is in Worklist
 unfoldable pub sweep : List Node → (ℕ → Bool) → ℕ → List Bool → List Bool
-sweep ns down zero m = m
-sweep ns down (suc k) m = sweep ns down k (markAll (cond (getD m k false && down k) (operands (nodeAt ns k)) []) m)
+sweep nodes down zero marks = marks
+sweep nodes down (suc k) marks = sweep nodes down k (markAll (cond (getD marks k false && down k) (operands (nodeAt nodes k)) []) marks)
 
--- 0, or 1 + the control slot, of each node: flagged nodes are numbered in node order (codegen.rs: `control_slot`)
+-- codegen.rs: `sample_needed`: from the roots, and not through what is hoistable
+unfoldable pub neededBy : Flow → List Bool → List Bool
+neededBy flow invariant =
+    let nodes : List Node = flow .nodes in
+    sweep nodes (λ n. not (hoistable nodes invariant n)) (length nodes) (markAll (roots flow) (replicate (length nodes) false))
+
+-- ---- "that the sample phase reaches gets a control slot, in node order"
+
+-- the nodes that get one
+unfoldable pub homesOf : List Node → List Bool → List Bool → List Bool
+homesOf nodes invariant needed = map (λ n. getD needed n false && hoistable nodes invariant n) (countUp 0 (length nodes))
+
+-- codegen.rs: `control_slot`: the slot of each flagged node, numbered from k on
 abbrev pub number : ℕ → List Bool → List ℕ
 number k [] = []
-number k (true ∷ fs) = suc k ∷ number (suc k) fs
-number k (false ∷ fs) = 0 ∷ number k fs
+number k (true ∷ flags) = suc k ∷ number (suc k) flags
+number k (false ∷ flags) = 0 ∷ number k flags
 
--- codegen.rs: `hoisted`: of constants and parameters alone, and computed
-unfoldable pub hoistable : List Node → List Bool → ℕ → Bool
-hoistable ns inv n = getD inv n false && isComputed (nodeAt ns n)
-
--- codegen.rs: `sample_needed`
-unfoldable pub neededBy : Flow → List Bool → List Bool
-neededBy b inv =
-    sweep (b .nodes) (λ n. not (hoistable (b .nodes) inv n)) (length (b .nodes)) (markAll (roots b) (replicate (length (b .nodes)) false))
-
--- what gets a control slot
-unfoldable pub homesOf : List Node → List Bool → List Bool → List Bool
-homesOf ns inv need = map (λ n. getD need n false && hoistable ns inv n) (countUp 0 (length ns))
-
--- the computations of the control phase, in node order
+-- the computations of the control phase, in node order: what it reaches and must compute
 unfoldable pub controlComputations : List Node → List Bool → List ℕ
-controlComputations ns cneed = filter (λ n. getD cneed n false && isComputed (nodeAt ns n)) (countUp 0 (length ns))
+controlComputations nodes needed = filter (λ n. getD needed n false && isComputed (nodeAt nodes n)) (countUp 0 (length nodes))

@@ -1,10 +1,11 @@
--- N
-use mathlib.Core.Bool.{Bool, false, true}
-use mathlib.Core.List.{List, [], _++_, _∷_}
-use Prim.Native.Nat.{suc, zero, ℕ}
+-- The expanded block as codegen.rs sees it: its nodes as data (graph.rs, `Node`), its updates and its output. An option is 0, or n + 1. Definitions alone.
+use mathlib.Core.Bool.{Bool, true, false}
+use mathlib.Core.List.{List, [], _∷_, _++_}
+use Prim.Native.Nat.{ℕ, zero, suc}
 use lib.ListN.{getD}
 
--- a node of an expanded block; a computation carries its node code (5 to 10 binary, 12 neg, 13 abs) and its operands
+-- a node of an expanded block: a constant has its bits, a parameter, state or delay its index, a computation its node code (5 to 10 binary, 12 neg,
+-- 13 abs) and its operands
 pub data Node : Type 0 where
   inputNode : Node
   networkNode : Node
@@ -15,7 +16,7 @@ pub data Node : Type 0 where
   binaryNode : ℕ → ℕ → ℕ → Node
   unaryNode : ℕ → ℕ → Node
 
--- the nodes, the updates of states and delays (0, or node + 1), and the output's node
+-- the nodes; the update of each state and of each delay, if it has one; the output's node
 pub record Flow : Type 0 where
   pub nodes : List Node
   pub states : List ℕ
@@ -26,34 +27,34 @@ pub record Flow : Type 0 where
 abbrev pub operands : Node → List ℕ
 operands inputNode = []
 operands networkNode = []
-operands (constantNode b) = []
-operands (parameterNode i) = []
-operands (stateNode i) = []
-operands (delayNode i) = []
-operands (binaryNode k a b) = a ∷ b ∷ []
-operands (unaryNode k a) = a ∷ []
+operands (constantNode bits) = []
+operands (parameterNode index) = []
+operands (stateNode index) = []
+operands (delayNode index) = []
+operands (binaryNode code lhs rhs) = lhs ∷ rhs ∷ []
+operands (unaryNode code input) = input ∷ []
 
 -- codegen.rs: `is_computed`
 abbrev pub isComputed : Node → Bool
 isComputed inputNode = false
 isComputed networkNode = false
-isComputed (constantNode b) = false
-isComputed (parameterNode i) = false
-isComputed (stateNode i) = false
-isComputed (delayNode i) = false
-isComputed (binaryNode k a b) = true
-isComputed (unaryNode k a) = true
+isComputed (constantNode bits) = false
+isComputed (parameterNode index) = false
+isComputed (stateNode index) = false
+isComputed (delayNode index) = false
+isComputed (binaryNode code lhs rhs) = true
+isComputed (unaryNode code input) = true
 
--- node n
+-- node n of a list of nodes
 abbrev pub nodeAt : List Node → ℕ → Node
-nodeAt ns n = getD ns n inputNode
+nodeAt nodes n = getD nodes n inputNode
 
--- the nodes that updates name
+-- the nodes that a table of updates names
 abbrev pub updatesOf : List ℕ → List ℕ
 updatesOf [] = []
-updatesOf (zero ∷ us) = updatesOf us
-updatesOf (suc n ∷ us) = n ∷ updatesOf us
+updatesOf (zero ∷ updates) = updatesOf updates
+updatesOf (suc n ∷ updates) = n ∷ updatesOf updates
 
 -- graph.rs: `Block::roots`: the output and every update
 unfoldable pub roots : Flow → List ℕ
-roots b = b .output ∷ (updatesOf (b .states) ++ updatesOf (b .delays))
+roots flow = flow .output ∷ (updatesOf (flow .states) ++ updatesOf (flow .delays))

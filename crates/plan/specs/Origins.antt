@@ -1,14 +1,14 @@
--- O
-use mathlib.Core.Bool.{Bool, _&&_, false, true}
+-- Where a node's value comes from in each phase, and repeated loads (codegen.rs, `control_sources`, `sample_sources`, `canonical`). Definitions alone.
+use mathlib.Core.Bool.{Bool, true, false, _&&_}
 use mathlib.Core.List.{List, [], _∷_}
-use Prim.Native.Nat.{pred, suc, zero, ℕ}
-use lib.ListN.{drop, getD, length}
+use Prim.Native.Nat.{ℕ, zero, suc, pred}
+use lib.ListN.{length, getD, drop}
 use lib.Dec.{eqb}
 use Rattle.plan.specs.Lists.{countUp, firstOf}
 use Rattle.plan.specs.Nodes.{Node, inputNode, networkNode, constantNode, parameterNode, stateNode, delayNode, binaryNode, unaryNode}
 
--- where a node's value comes from in a phase: computed, an immediate's bits, or a load's code (1..6) and index
--- (codegen.rs: `Option<Source>`)
+-- where a node's value comes from in a phase (codegen.rs: `Option<Source>`): it is computed, it is an immediate's bits, or a load's code (1 audio,
+-- 2 network, 3 parameter, 4 state, 5 delay, 6 control) and index
 pub data Origin : Type 0 where
   noOrigin : Origin
   immediate : ℕ → Origin
@@ -18,60 +18,60 @@ pub data Origin : Type 0 where
 unfoldable pub controlOrigin : Node → Origin
 controlOrigin inputNode = noOrigin
 controlOrigin networkNode = noOrigin
-controlOrigin (constantNode b) = immediate b
-controlOrigin (parameterNode i) = loaded 3 i
-controlOrigin (stateNode i) = noOrigin
-controlOrigin (delayNode i) = noOrigin
-controlOrigin (binaryNode k a b) = noOrigin
-controlOrigin (unaryNode k a) = noOrigin
+controlOrigin (constantNode bits) = immediate bits
+controlOrigin (parameterNode index) = loaded 3 index
+controlOrigin (stateNode index) = noOrigin
+controlOrigin (delayNode index) = noOrigin
+controlOrigin (binaryNode code lhs rhs) = noOrigin
+controlOrigin (unaryNode code input) = noOrigin
 
 -- codegen.rs: `sample_sources`, of a node that has no control slot
 unfoldable pub nodeOrigin : Node → Origin
 nodeOrigin inputNode = loaded 1 0
 nodeOrigin networkNode = loaded 2 0
-nodeOrigin (constantNode b) = immediate b
-nodeOrigin (parameterNode i) = loaded 3 i
-nodeOrigin (stateNode i) = loaded 4 i
-nodeOrigin (delayNode i) = loaded 5 i
-nodeOrigin (binaryNode k a b) = noOrigin
-nodeOrigin (unaryNode k a) = noOrigin
+nodeOrigin (constantNode bits) = immediate bits
+nodeOrigin (parameterNode index) = loaded 3 index
+nodeOrigin (stateNode index) = loaded 4 index
+nodeOrigin (delayNode index) = loaded 5 index
+nodeOrigin (binaryNode code lhs rhs) = noOrigin
+nodeOrigin (unaryNode code input) = noOrigin
 
--- codegen.rs: `sample_sources`: the control slot's load, if the node has one (0, or slot + 1)
+-- .. and of one that has: it is loaded from there
 unfoldable pub sampleOrigin : ℕ → Node → Origin
-sampleOrigin zero x = nodeOrigin x
-sampleOrigin (suc k) x = loaded 6 k
+sampleOrigin zero node = nodeOrigin node
+sampleOrigin (suc slot) node = loaded 6 slot
 
--- for all nodes, in order
+-- of all nodes, by the table of their control slots
 abbrev pub sampleOrigins : List ℕ → List Node → List Origin
-sampleOrigins ks [] = []
-sampleOrigins ks (x ∷ xs) = sampleOrigin (getD ks 0 0) x ∷ sampleOrigins (lib.ListN.drop 1 ks) xs
+sampleOrigins slots [] = []
+sampleOrigins slots (node ∷ nodes) = sampleOrigin (getD slots 0 0) node ∷ sampleOrigins (drop 1 slots) nodes
 
--- is the value a load or an immediate (not computed)
+-- is the value not computed
 abbrev pub hasOrigin : Origin → Bool
 hasOrigin noOrigin = false
-hasOrigin (immediate b) = true
-hasOrigin (loaded c i) = true
+hasOrigin (immediate bits) = true
+hasOrigin (loaded code index) = true
 
 -- is it the load of this code and index
 abbrev pub isLoad : ℕ → ℕ → Origin → Bool
-isLoad c i noOrigin = false
-isLoad c i (immediate b) = false
-isLoad c i (loaded d j) = eqb c d && eqb i j
+isLoad code index noOrigin = false
+isLoad code index (immediate bits) = false
+isLoad code index (loaded c i) = eqb code c && eqb index i
 
 -- node n's
 abbrev pub originAt : List Origin → ℕ → Origin
-originAt ss n = getD ss n noOrigin
+originAt origins n = getD origins n noOrigin
 
--- 0, or 1 + the first node whose value is the load of code c and index i (codegen.rs: the `HashMap` of `Allocator::new`)
+-- the first node whose value is the load of this code and index, if there is one (codegen.rs: the `HashMap` of `Allocator::new`)
 unfoldable pub homeOf : List Origin → ℕ → ℕ → ℕ
-homeOf ss c i = firstOf (λ n. isLoad c i (originAt ss n)) (countUp 0 (length ss))
+homeOf origins code index = firstOf (λ n. isLoad code index (originAt origins n)) (countUp 0 (length origins))
 
--- a repeated load's first node, else the node itself
+-- the first node of a load, else node n itself
 unfoldable pub canonicalAs : List Origin → ℕ → Origin → ℕ
-canonicalAs ss n noOrigin = n
-canonicalAs ss n (immediate b) = n
-canonicalAs ss n (loaded c i) = pred (homeOf ss c i)
+canonicalAs origins n noOrigin = n
+canonicalAs origins n (immediate bits) = n
+canonicalAs origins n (loaded code index) = pred (homeOf origins code index)
 
--- codegen.rs: `canonical`. Repeated loads of one source share the first node
+-- "Repeated loads of one source share the first node" (codegen.rs: `canonical`)
 unfoldable pub canonical : List Origin → ℕ → ℕ
-canonical ss n = canonicalAs ss n (originAt ss n)
+canonical origins n = canonicalAs origins n (originAt origins n)

@@ -1,70 +1,91 @@
--- S
-use mathlib.Core.Bool.{Bool, _&&_, _||_, false, not, true}
-use mathlib.Core.List.{List, [], _++_, _∷_, map}
-use Prim.Native.Nat.{_-_, suc, zero, ℕ}
-use lib.ListN.{getD, length}
+-- The tasks of each phase in order (document 01, module 3; codegen.rs, `control_ops` and `sample_schedule`), and the whole plan. Definitions alone.
+use mathlib.Core.Bool.{Bool, true, false, not, _&&_, _||_}
+use mathlib.Core.List.{List, [], _∷_, _++_, map}
+use Prim.Native.Nat.{ℕ, zero, suc, _-_}
+use lib.ListN.{length, getD}
 use lib.Dec.{eqb}
 use Rattle.plan.specs.Lists.{filter, anyOf, countUp, count}
 use Rattle.plan.specs.Nodes.{Node, Flow, operands, nodeAt}
 use Rattle.plan.specs.Hoist.{invariants, sweep, number, neededBy, homesOf, controlComputations}
 use Rattle.plan.specs.Origins.{Origin, controlOrigin, sampleOrigins, hasOrigin, isLoad, originAt, canonical}
 
--- one op of a phase (codegen.rs: `Op`): compute a node; keep a hoisted value in its control slot (slot, value);
--- store (code 10 state, 11 delay, 12 output; index, value)
+-- codegen.rs: `Op`
 pub data Task : Type 0 where
+  -- compute a node
   computeTask : ℕ → Task
+  -- keep a hoisted value in its control slot: slot, node
   keepTask : ℕ → ℕ → Task
+  -- store: code 10 state, 11 delay, 12 output; index; the node of the value
   storeTask : ℕ → ℕ → ℕ → Task
 
 -- codegen.rs: `Op::reads`
 unfoldable pub taskReads : List Node → List Origin → Task → List ℕ
-taskReads ns ss (computeTask n) = map (canonical ss) (operands (nodeAt ns n))
-taskReads ns ss (keepTask k v) = canonical ss v ∷ []
-taskReads ns ss (storeTask c i v) = canonical ss v ∷ []
+taskReads nodes origins (computeTask n) = map (canonical origins) (operands (nodeAt nodes n))
+taskReads nodes origins (keepTask slot value) = canonical origins value ∷ []
+taskReads nodes origins (storeTask code index value) = canonical origins value ∷ []
 
--- a write of a state (code 10) or a delay (11): code, index, the node of its new value
+-- ---- the control phase
+
+-- a computation, then its store if it has a control slot
+abbrev pub controlTask : ℕ → ℕ → List Task
+controlTask n zero = computeTask n ∷ []
+controlTask n (suc slot) = computeTask n ∷ keepTask slot n ∷ []
+
+-- codegen.rs: `control_ops`, of these computations
+abbrev pub controlTasks : List ℕ → List ℕ → List Task
+controlTasks slots [] = []
+controlTasks slots (n ∷ computations) = controlTask n (getD slots n 0) ++ controlTasks slots computations
+
+-- ---- the sample phase
+
+-- a write of a state (code 10) or of a delay (11), with the node of its new value
 pub record Write : Type 0 where
   pub code : ℕ
   pub index : ℕ
   pub value : ℕ
 
--- the writes of a table of updates, from index k on
+-- the writes of a table of updates, of the memories from this index on
 abbrev pub writesFrom : ℕ → ℕ → List ℕ → List Write
-writesFrom c k [] = []
-writesFrom c k (zero ∷ us) = writesFrom c (suc k) us
-writesFrom c k (suc n ∷ us) = record { code = c; index = k; value = n } ∷ writesFrom c (suc k) us
+writesFrom code index [] = []
+writesFrom code index (zero ∷ updates) = writesFrom code (suc index) updates
+writesFrom code index (suc n ∷ updates) = record { code = code; index = index; value = n } ∷ writesFrom code (suc index) updates
 
--- the write waits for the computation n: it is the new value's, or it reads the old value, through any repeated node of that memory
-unfoldable pub waits : List Node → List Origin → Write → ℕ → Bool
-waits ns ss w n = eqb n (w .value) || anyOf (λ a. isLoad (w .code - 6) (w .index) (originAt ss a)) (operands (nodeAt ns n))
+-- "states before delays"
+unfoldable pub writes : Flow → List Write
+writes flow = writesFrom 10 0 (flow .states) ++ writesFrom 11 0 (flow .delays)
 
--- the writes as ops
+-- the writes as tasks
 abbrev pub tasksOf : List Write → List Task
 tasksOf [] = []
 tasksOf (w ∷ ws) = storeTask (w .code) (w .index) (w .value) ∷ tasksOf ws
 
--- computations in node order, each followed by the writes for which it is the last that they wait for
+-- "each write comes right after the later of its new value's computation and the last one reading its old value": the write waits for computation n if
+-- n is its new value, or reads the old one, through any repeated node of that memory
+unfoldable pub waits : List Node → List Origin → Write → ℕ → Bool
+waits nodes origins w n =
+    eqb n (w .value) || anyOf (λ operand. isLoad (w .code - 6) (w .index) (originAt origins operand)) (operands (nodeAt nodes n))
+
+-- codegen.rs: `computed`: what the sample phase reaches and must compute
+unfoldable pub sampleComputations : List Node → List Bool → List Origin → List ℕ
+sampleComputations nodes needed origins =
+    filter (λ n. getD needed n false && not (hasOrigin (originAt origins n))) (countUp 0 (length nodes))
+
+-- "Computations run in node order", each followed by the writes for which it is the last that they wait for
 unfoldable pub scheduleFrom : List Node → List Origin → List Write → List ℕ → List Task
-scheduleFrom ns ss ws [] = []
-scheduleFrom ns ss ws (n ∷ rest) =
-    computeTask n ∷ (tasksOf (filter (λ w. waits ns ss w n && not (anyOf (waits ns ss w) rest)) ws) ++ scheduleFrom ns ss ws rest)
+scheduleFrom nodes origins ws [] = []
+scheduleFrom nodes origins ws (n ∷ rest) =
+    computeTask n
+    ∷ (tasksOf (filter (λ w. waits nodes origins w n && not (anyOf (waits nodes origins w) rest)) ws) ++ scheduleFrom nodes origins ws rest)
 
--- codegen.rs: `sample_schedule`. Writes that wait for nothing first, the output last
+-- codegen.rs: `sample_schedule`: writes that wait for nothing "first of all", "output last". The Rust's own form, with ordinals, is in Ordinals
 unfoldable pub schedule : List Node → List Origin → List Write → List ℕ → ℕ → List Task
-schedule ns ss ws comps out =
-    tasksOf (filter (λ w. not (anyOf (waits ns ss w) comps)) ws) ++ (scheduleFrom ns ss ws comps ++ (storeTask 12 0 out ∷ []))
+schedule nodes origins ws computations output =
+    tasksOf (filter (λ w. not (anyOf (waits nodes origins w) computations)) ws)
+    ++ (scheduleFrom nodes origins ws computations ++ (storeTask 12 0 output ∷ []))
 
--- a computation of the control phase, then its store if it has a control slot
-abbrev pub controlTask : ℕ → ℕ → List Task
-controlTask n zero = computeTask n ∷ []
-controlTask n (suc k) = computeTask n ∷ keepTask k n ∷ []
+-- ---- the plan
 
--- codegen.rs: `control_ops`
-abbrev pub controlTasks : List ℕ → List ℕ → List Task
-controlTasks slots [] = []
-controlTasks slots (n ∷ ns) = controlTask n (getD slots n 0) ++ controlTasks slots ns
-
--- what is hoisted, reached and scheduled
+-- the control slots of the nodes and their number; of each phase the origins of the nodes, and the tasks
 pub record Plan : Type 0 where
   pub slots : List ℕ
   pub fixed : ℕ
@@ -73,29 +94,21 @@ pub record Plan : Type 0 where
   pub sampleOrigins : List Origin
   pub sampleTasks : List Task
 
--- codegen.rs: `computed`, of `sample_schedule`: what the sample phase reaches and must compute
-unfoldable pub sampleComputations : List Node → List Bool → List Origin → List ℕ
-sampleComputations ns need ss = filter (λ n. getD need n false && not (hasOrigin (originAt ss n))) (countUp 0 (length ns))
-
--- states before delays
-unfoldable pub writes : Flow → List Write
-writes b = writesFrom 10 0 (b .states) ++ writesFrom 11 0 (b .delays)
-
--- the first half of codegen.rs: `compile_with`
+-- codegen.rs: `compile_with`, up to the allocator
 unfoldable pub planOf : Flow → Plan
-planOf b =
-    let ns : List Node = b .nodes in
-    let inv : List Bool = invariants ns [] in
-    let need : List Bool = neededBy b inv in
-    let homes : List Bool = homesOf ns inv need in
+planOf flow =
+    let nodes : List Node = flow .nodes in
+    let invariant : List Bool = invariants nodes [] in
+    let needed : List Bool = neededBy flow invariant in
+    let homes : List Bool = homesOf nodes invariant needed in
     let slots : List ℕ = number 0 homes in
-    let cneed : List Bool = sweep ns (λ n. true) (length ns) homes in
-    let ss : List Origin = sampleOrigins slots ns in
+    let controlNeeded : List Bool = sweep nodes (λ n. true) (length nodes) homes in
+    let origins : List Origin = sampleOrigins slots nodes in
     record {
       slots = slots;
       fixed = count slots;
-      controlOrigins = map controlOrigin ns;
-      controlTasks = controlTasks slots (controlComputations ns cneed);
-      sampleOrigins = ss;
-      sampleTasks = schedule ns ss (writes b) (sampleComputations ns need ss) (b .output);
+      controlOrigins = map controlOrigin nodes;
+      controlTasks = controlTasks slots (controlComputations nodes controlNeeded);
+      sampleOrigins = origins;
+      sampleTasks = schedule nodes origins (writes flow) (sampleComputations nodes needed origins) (flow .output);
     }
