@@ -10,8 +10,8 @@ use Rattle.plan.specs.Origins.{Origin, noOrigin, immediate, loaded, originAt, h
 use Rattle.plan.specs.Schedule.{Task, computeTask, keepTask, storeTask, taskReads}
 use Rattle.plan.specs.Lists.{firstOf, count}
 use Rattle.allocate.specs.Actions.{Action, compute, storeControl, loadAction, storeAction, Operation, loadImmediate}
-use Rattle.allocate.specs.State.{Allocated, allocated, allLocked, Setting, State, Taken, TakenAll, registerOf, slotOf, isFresh, reloadable, emit, emitOperation, toSlot, fromSlot, spillIn, spillOut, place, vacate, disown, release, begin}
-use Rattle.allocate.specs.Allocator.{spillIf, evict, takeRegister, bringFrom, bringIf, bring, fetchHeld, fetch, fetchAll, releaseIf, releaseAll, readLater, lend, resultRegister, lower, runCompute, setSlot, runKeep, stale, homeCode, preserveIf, preserve, runStore, runTask, allocateTask, readsOf, allocate}
+use Rattle.allocate.specs.State.{Allocated, allocated, allLocked, Setting, State, Taken, TakenAll, registerOf, slotOf, isFresh, reloadable, emit, emitOperation, toSlot, fromSlot, spillIn, spillOut, place, vacate, disown, release, begin, lend, setSlot, stale}
+use Rattle.allocate.specs.Allocator.{spillIf, evict, takeRegister, bringFrom, bringIf, bring, fetchHeld, fetch, fetchAll, releaseIf, releaseAll, readLater, resultRegister, lower, runCompute, runKeep, homeCode, preserveIf, preserve, runStore, runTask, allocateTask, readsOf, allocate}
 use Rattle.allocate.specs.Outcomes.{Post, post-bind}
 use Rattle.allocate.specs.StateLaws.{TakeView, was-free, evicted, none, take-view}
 

@@ -13,8 +13,8 @@ use Rattle.tables.specs.Tests.{or-pass}
 use Rattle.plan.specs.Lists.{member, firstOf, isSome}
 use Rattle.plan.specs.TestLaws.{or-first, or-second}
 use Rattle.plan.specs.ListLaws.{first-some}
-use Rattle.allocate.specs.State.{Allocated, allocated, allLocked, Setting, State, Taken, TakenAll, registerOf, ownerOf, reloadable, release}
-use Rattle.allocate.specs.Allocator.{takeRegister, fetch, fetchAll, releaseIf, releaseAll, readLater, lend, resultRegister}
+use Rattle.allocate.specs.State.{Allocated, allocated, allLocked, Setting, State, Taken, TakenAll, registerOf, ownerOf, reloadable, release, lend}
+use Rattle.allocate.specs.Allocator.{takeRegister, fetch, fetchAll, releaseIf, releaseAll, readLater, resultRegister}
 use Rattle.allocate.specs.Outcomes.{Post, post-bind}
 use Rattle.allocate.specs.Invariants.{regs-place, regs-vacate, some-lt}
 use Rattle.allocate.specs.StateLaws.{Good, avail, Sixteen, Keeps, good-release, unset, was-set, suc-is}

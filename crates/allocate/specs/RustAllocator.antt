@@ -17,8 +17,8 @@ use Rattle.plan.specs.Schedule.{Task, computeTask, keepTask, storeTask, taskRea
 use Rattle.plan.specs.TestLaws.{or-first, or-second}
 use Rattle.plan.specs.ListLaws.{filter-member, best-member, zeros-at}
 use Rattle.allocate.specs.Actions.{compute, Action, Operation, storeControl, storeAction, loadAction, loadImmediate}
-use Rattle.allocate.specs.State.{Allocated, allocated, allLocked, andThen, Setting, State, Taken, TakenAll, registerOf, ownerOf, slotOf, isFresh, reloadable, emit, emitOperation, fromSlot, spillIn, spillOut, place, vacate, disown, release, begin}
-use Rattle.allocate.specs.Allocator.{readLater, spillIf, evict, evictKey, takeBest, takeFree, takeRegister, bringFrom, bringIf, bring, fetchHeld, fetch, fetchAll, releaseIf, releaseAll, lend, resultRegister, lower, runCompute, setSlot, runKeep, stale, homeCode, preserveIf, preserve, runStore, runTask, allocateTask, readsOf, allocate}
+use Rattle.allocate.specs.State.{Allocated, allocated, allLocked, andThen, Setting, State, Taken, TakenAll, registerOf, ownerOf, slotOf, isFresh, reloadable, emit, emitOperation, fromSlot, spillIn, spillOut, place, vacate, disown, release, begin, lend, setSlot, stale}
+use Rattle.allocate.specs.Allocator.{readLater, spillIf, evict, evictKey, takeBest, takeFree, takeRegister, bringFrom, bringIf, bring, fetchHeld, fetch, fetchAll, releaseIf, releaseAll, resultRegister, lower, runCompute, runKeep, homeCode, preserveIf, preserve, runStore, runTask, allocateTask, readsOf, allocate}
 use Rattle.allocate.specs.Outcomes.{Post}
 use Rattle.allocate.specs.StateLaws.{unset}
 use Rattle.allocate.specs.TaskLaws.{known}

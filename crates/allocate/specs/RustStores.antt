@@ -16,8 +16,8 @@ use Rattle.plan.specs.Origins.{Origin, isLoad, originAt, homeOf}
 use Rattle.plan.specs.Schedule.{Task, taskReads}
 use Rattle.plan.specs.TestLaws.{or-first, or-second, and-both}
 use Rattle.plan.specs.OriginLaws.{home-known, is-load, home-origin}
-use Rattle.allocate.specs.State.{Allocated, allocated, allLocked, andThen, Setting, State, Taken, isFresh}
-use Rattle.allocate.specs.Allocator.{readLater, fetch, preserveIf, preserve, stale, readsOf}
+use Rattle.allocate.specs.State.{Allocated, allocated, allLocked, andThen, Setting, State, Taken, isFresh, stale}
+use Rattle.allocate.specs.Allocator.{readLater, fetch, preserveIf, preserve, readsOf}
 use Rattle.allocate.specs.Canonical.{Canonical, off-at, reads-canonical}
 
 -- ---- `preserve`

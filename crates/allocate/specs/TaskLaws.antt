@@ -15,8 +15,8 @@ use Rattle.plan.specs.Origins.{hasOrigin, originAt, homeOf}
 use Rattle.plan.specs.Nodes.{nodeAt}
 use Rattle.plan.specs.Lists.{member, firstOf, isSome}
 use Rattle.plan.specs.TestLaws.{or-first, or-second}
-use Rattle.allocate.specs.State.{Setting, State, Taken, TakenAll, registerOf, slotOf, isFresh, reloadable, emit, emitOperation}
-use Rattle.allocate.specs.Allocator.{fetch, releaseAll, readLater, resultRegister, lower, runCompute, setSlot, runKeep, stale, homeCode, preserveIf, preserve, runStore}
+use Rattle.allocate.specs.State.{Setting, State, Taken, TakenAll, registerOf, slotOf, isFresh, reloadable, emit, emitOperation, setSlot, stale}
+use Rattle.allocate.specs.Allocator.{fetch, releaseAll, readLater, resultRegister, lower, runCompute, runKeep, homeCode, preserveIf, preserve, runStore}
 use Rattle.allocate.specs.Actions.{Action, Operation, storeControl, storeAction}
 use Rattle.allocate.specs.Outcomes.{Post, post-bind}
 use Rattle.allocate.specs.Invariants.{slots-home}

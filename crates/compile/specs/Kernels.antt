@@ -32,8 +32,8 @@ use Rattle.plan.specs.Origins.{controlOrigin, nodeOrigin, sampleOrigin, homeOf,
 use Rattle.plan.specs.Schedule.{taskReads, waits, scheduleFrom, schedule, sampleComputations, writes, planOf}
 use Rattle.plan.specs.Flow.{nodeOf, flowOf}
 use Rattle.allocate.specs.Actions.{sourceOf, loadAction, storeAction}
-use Rattle.allocate.specs.State.{Allocated, allocated, allLocked, emit, toSlot, fromSlot, spillOut, place, vacate, release, begin}
-use Rattle.allocate.specs.Allocator.{evict, evictKey, takeRegister, bringFrom, bring, fetch, fetchAll, releaseAll, lend, runCompute, setSlot, runKeep, stale, runStore, runTask, allocateTask, readsOf, allocate}
+use Rattle.allocate.specs.State.{Allocated, allocated, allLocked, emit, toSlot, fromSlot, spillOut, place, vacate, release, begin, lend, setSlot, stale}
+use Rattle.allocate.specs.Allocator.{evict, evictKey, takeRegister, bringFrom, bring, fetch, fetchAll, releaseAll, runCompute, runKeep, runStore, runTask, allocateTask, readsOf, allocate}
 use Rattle.compile.specs.Draft.{usable, controlSetting, sampleSetting, draftOf, compilePlan, compileFlow}
 use Rattle.compile.specs.Words.{Compiled, compiledOf}
 use Rattle.compile.specs.Compile.{compile}
