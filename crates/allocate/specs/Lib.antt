@@ -1,9 +1,12 @@
--- The allocator.
+-- Document 01, module 4: the register allocator, from the tasks of a phase to its steps.
+-- definitions
 pub mod Actions
 pub mod State
 pub mod Allocator
+-- nothing is refused with three usable registers
 pub mod Outcomes
 pub mod Pressure
+-- the invariant, from the tables of registers and slots up to a whole run
 pub mod Invariants
 pub mod StateLaws
 pub mod FetchLaws
@@ -11,10 +14,14 @@ pub mod ReadLaws
 pub mod TaskLaws
 pub mod RunLaws
 pub mod Begin
-pub mod Costs
+-- the plan gives the allocator what it asks for
 pub mod Scheduled
+-- how many steps, slots and registers
+pub mod Costs
 pub mod Bounds
+-- the Rust's own forms give the same: loops over every node, the pairs of `max_by_key`
 pub mod Canonical
 pub mod RustStores
 pub mod RustAllocator
+pub mod RustReads
 pub mod RustKeys

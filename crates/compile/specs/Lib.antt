@@ -1,10 +1,15 @@
--- Compile.
+-- Document 01, modules 3 and 4 together: from a block to a kernel's words.
+-- definitions: both phases, their words, compile, the call
 pub mod Draft
 pub mod Words
 pub mod Compile
-pub mod Gives
-pub mod PhasesFit
 pub mod Call
+-- with three usable registers there is a kernel: `compile-gives`
+pub mod Gives
+-- document 01's bounds: `compile-bounds`, `counts-fit`, `call-lengths`
+pub mod PhasesFit
 pub mod Bounds
+-- the Rust's own forms give the same kernel: `compile-rust`, `block-rust`
 pub mod RustCompile
+-- document 01's small kernels: `starred-kernels`
 pub mod Kernels

@@ -1,15 +1,20 @@
--- The plan.
+-- Document 01, module 3: what is hoisted, what each phase reaches, and the tasks of each phase in order.
+-- definitions
 pub mod Lists
 pub mod Nodes
 pub mod Hoist
 pub mod Origins
 pub mod Schedule
+-- laws of tests and lists
 pub mod TestLaws
 pub mod ListLaws
+-- laws of origins, of reachability, and what a good flow plans
 pub mod OriginLaws
 pub mod Reached
 pub mod Planned
+-- the expanded block as a flow: `flowOf`, and that a good graph's flow is good
 pub mod Flow
+-- the Rust's own forms give the same: a stack for `reachable`, ordinals for `sample_schedule`
 pub mod Worklist
 pub mod Ordinals
 pub mod RustPlan
