@@ -98,7 +98,9 @@ unfolding fetch
 fetch-grew e rest n locked s = go (registerOf s n)
   where
     go : (h : ℕ) → Post (Unit {0}) (GrewTaken s) (fetchHeld e rest n locked s h)
-    go zero = post-bind (Unit {0}) (GrewTaken s) (GrewTaken s) (takeRegister e rest n locked s) _ (take-grew e rest n locked s) (λ g h. grew-trans s (g .state) (bring e n (g .register) (g .state)) h (bring-grew e n (g .register) (g .state)))
+    go zero =
+        post-bind (Unit {0}) (GrewTaken s) (GrewTaken s) (takeRegister e rest n locked s) _ (take-grew e rest n locked s)
+        (λ g h. grew-trans s (g .state) (bring e n (g .register) (g .state)) h (bring-grew e n (g .register) (g .state)))
     go (suc r) = grew-refl s
 
 fetchAll-grew : (e : Setting) (rest : List (List ℕ)) (ns locked : List ℕ) (s : State) → Post (Unit {0}) (λ g. Grew s (g .state)) (fetchAll e rest ns locked s)
@@ -108,7 +110,8 @@ fetchAll-grew e rest (n ∷ ns) locked s =
     post-bind (Unit {0}) (GrewTaken s) (λ g. Grew s (g .state)) (fetch e rest n locked s) _ (fetch-grew e rest n locked s) (λ g h.
     more g h (fetchAll e rest ns (locked ++ (g .register ∷ [])) (g .state)) (fetchAll-grew e rest ns (locked ++ (g .register ∷ [])) (g .state)))
   where
-    more : (g : Taken) → Grew s (g .state) → (x : Allocated TakenAll) → Post (Unit {0}) (λ u. Grew (g .state) (u .state)) x → Post (Unit {0}) (λ u. Grew s (u .state)) x
+    more : (g : Taken) → Grew s (g .state) → (x : Allocated TakenAll) → Post (Unit {0}) (λ u. Grew (g .state) (u .state)) x
+        → Post (Unit {0}) (λ u. Grew s (u .state)) x
     more g h (allocated u) k = grew-trans s (g .state) (u .state) h k
     more g h allLocked k = tt
 

@@ -43,7 +43,8 @@ canonical-canonical e a = go (originAt (e .origins) a) refl
 
 pub reads-canonical : (e : Setting) (o : Task) (m : ℕ) → T (member m (taskReads (e .nodes) (e .origins) o)) → Canonical e m
 unfolding taskReads
-reads-canonical e (computeTask n) m t = let r = member-map (canonical (e .origins)) (operands (nodeAt (e .nodes) n)) m t in subst (λ (k : ℕ). Canonical e k) (sym (r .2)) (canonical-canonical e (r .0))
+reads-canonical e (computeTask n) m t =
+    let r = member-map (canonical (e .origins)) (operands (nodeAt (e .nodes) n)) m t in subst (λ (k : ℕ). Canonical e k) (sym (r .2)) (canonical-canonical e (r .0))
 reads-canonical e (keepTask k v) m t = one-canonical e v m (or-pass (eqb m (canonical (e .origins) v)) false t)
   where
     one-canonical : (e : Setting) (v m : ℕ) → T (eqb m (canonical (e .origins) v)) ⊎ ⊥ → Canonical e m

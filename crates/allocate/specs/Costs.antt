@@ -43,7 +43,8 @@ none-or : (q : Write → Bool) (ws : List Write) → length (filter (λ w. not (
 none-or q [] = refl
 none-or q (w ∷ ws) = go (q w) (none-or q ws)
   where
-    go : (y : Bool) → length (filter (λ w. not (q w)) ws) + length (filter q ws) ≡ length ws → length (cond (not y) (w ∷ filter (λ w. not (q w)) ws) (filter (λ w. not (q w)) ws)) + length (cond y (w ∷ filter q ws) (filter q ws)) ≡ suc (length ws)
+    go : (y : Bool) → length (filter (λ w. not (q w)) ws) + length (filter q ws) ≡ length ws
+        → length (cond (not y) (w ∷ filter (λ w. not (q w)) ws) (filter (λ w. not (q w)) ws)) + length (cond y (w ∷ filter q ws) (filter q ws)) ≡ suc (length ws)
     go true h = omega arith
     go false h = omega arith
 

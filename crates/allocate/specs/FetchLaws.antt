@@ -41,7 +41,8 @@ pub record Evicted (e : Setting) (home : List ℕ) (v r : ℕ) (locked : List �
   pub only : (m q : ℕ) → registerOf s′ m ≡ suc q → registerOf s m ≡ suc q
 
 module _ (e : Setting) (home : List ℕ) (wf : Sixteen e) where
-  vacated : (v r : ℕ) (locked : List ℕ) (s : State) → Good e home s → ownerOf s r ≡ suc v → (T (member r locked) → ⊥) → T (reloadable s v) → Evicted e home v r locked s (vacate v r s)
+  vacated : (v r : ℕ) (locked : List ℕ) (s : State) → Good e home s → ownerOf s r ≡ suc v → (T (member r locked) → ⊥) → T (reloadable s v)
+      → Evicted e home v r locked s (vacate v r s)
   unfolding vacate
   vacated v r locked s g hr nl re =
       record {
@@ -56,7 +57,8 @@ module _ (e : Setting) (home : List ℕ) (wf : Sixteen e) where
         only = λ m q h. unset (s .holder) v m q h;
       }
 
-  pub evicts : (v r : ℕ) (locked : List ℕ) (s : State) → Good e home s → ownerOf s r ≡ suc v → (T (member r locked) → ⊥) → Evicted e home v r locked s (evict e v r s)
+  pub evicts : (v r : ℕ) (locked : List ℕ) (s : State) → Good e home s → ownerOf s r ≡ suc v → (T (member r locked) → ⊥)
+      → Evicted e home v r locked s (evict e v r s)
   unfolding evict vacate
   evicts v r locked s g hr nl = go (reloadable s v) refl
     where
@@ -141,7 +143,8 @@ pub record Brought (s s′ : State) : Type 0 where
 
 pub brought-emit : (x : Action) (s : State) → Brought s (emit x s)
 unfolding emit
-brought-emit x s = record { holder = refl; owner = refl; spilled = refl; fresh = refl; good = λ e home g. g; slots = refl; grow = omega (arith, length-append (s .steps) (x ∷ [])) }
+brought-emit x s =
+    record { holder = refl; owner = refl; spilled = refl; fresh = refl; good = λ e home g. g; slots = refl; grow = omega (arith, length-append (s .steps) (x ∷ [])) }
 
 pub brought-operation : (x : Operation) (s : State) → Brought s (emitOperation x s)
 brought-operation x s = brought-emit (compute x) s

@@ -232,7 +232,8 @@ module _ (home : List ℕ) (fixed : ℕ) (spilled free : List ℕ) (slots : ℕ)
       was : (m j : ℕ) → getD (set spilled n 0) m 0 ≡ suc j → (m ≢ n) × (getD spilled m 0 ≡ suc j)
       was m j h = old m j (set-says spilled n 0 m j h)
 
-      rest : (free′ : List ℕ) → ((k : ℕ) → T (member k free′) → (fixed ≤ k) × (k < slots)) → ((m k : ℕ) → T (member k free′) → getD (set spilled n 0) m 0 ≡ suc k → ⊥)
+      rest : (free′ : List ℕ) → ((k : ℕ) → T (member k free′) → (fixed ≤ k) × (k < slots))
+          → ((m k : ℕ) → T (member k free′) → getD (set spilled n 0) m 0 ≡ suc k → ⊥)
           → NoDup free′ → Slots home fixed (set spilled n 0) free′ slots
       rest free′ fi fo once =
           record {

@@ -37,7 +37,8 @@ member-skip : (q x : ℕ) (xs : List ℕ) → T (member q xs) → T (member q (x
 member-skip q x xs t = or-second (eqb q x) (member q xs) t
 
 -- locked registers keep what they hold
-holds-keep : (locked : List ℕ) (s s′ : State) → Keeps locked s s′ → (ns rs : List ℕ) → ((q : ℕ) → T (member q rs) → T (member q locked)) → Holds s ns rs → Holds s′ ns rs
+holds-keep : (locked : List ℕ) (s s′ : State) → Keeps locked s s′ → (ns rs : List ℕ) → ((q : ℕ) → T (member q rs) → T (member q locked)) → Holds s ns rs
+    → Holds s′ ns rs
 holds-keep locked s s′ k [] [] sub h = tt
 holds-keep locked s s′ k [] (x ∷ rs) sub h = h
 holds-keep locked s s′ k (n ∷ ns) [] sub h = h
@@ -64,7 +65,8 @@ pub record FetchedAll (e : Setting) (home : List ℕ) (ds ns : List ℕ) (s : St
   pub quiet : ((m : ℕ) → T (member m ns) → T (isSome (registerOf s m))) → g .state ≡ s
 
 module _ (e : Setting) (home : List ℕ) (wf : Sixteen e) where
-  pub fetchAll-fetched : (rest : List (List ℕ)) (ns ds locked : List ℕ) (s : State) → Good e home s → ((m : ℕ) → T (member m ns) → m < length (e .origins)) → Holds s ds locked
+  pub fetchAll-fetched : (rest : List (List ℕ)) (ns ds locked : List ℕ) (s : State) → Good e home s → ((m : ℕ) → T (member m ns) → m < length (e .origins))
+      → Holds s ds locked
       → Post (Unit {0}) (FetchedAll e home ds ns s) (fetchAll e rest ns locked s)
   unfolding fetchAll
   fetchAll-fetched rest [] ds locked s g ln h =
@@ -101,7 +103,8 @@ module _ (e : Setting) (home : List ℕ) (wf : Sixteen e) where
           pick m q (inl z) = inl (member-skip m n ns z)
           pick m q (inr z) = pick₂ m q (k .only m q z)
 
-      weaken : (t : Taken) → Fetched e home n locked s t → (x : Allocated TakenAll) → Post (Unit {0}) (FetchedAll e home (ds ++ (n ∷ [])) ns (t .state)) x → Post (Unit {0}) (FetchedAll e home ds (n ∷ ns) s) x
+      weaken : (t : Taken) → Fetched e home n locked s t → (x : Allocated TakenAll) → Post (Unit {0}) (FetchedAll e home (ds ++ (n ∷ [])) ns (t .state)) x
+          → Post (Unit {0}) (FetchedAll e home ds (n ∷ ns) s) x
       weaken t k (allocated u) f = one t k u f
       weaken t k allLocked f = tt
 
@@ -205,7 +208,8 @@ module _ (e : Setting) (home : List ℕ) (wf : Sixteen e) (rest : List (List ℕ
   not-false true h = sym h
   not-false false h = refl
 
-  pub target-aimed : (n : ℕ) (reads : List ℕ) (g : TakenAll) → Good e home (g .state) → Holds (g .state) reads (g .registers) → registerOf (g .state) n ≡ 0 → n < length (e .origins)
+  pub target-aimed : (n : ℕ) (reads : List ℕ) (g : TakenAll) → Good e home (g .state) → Holds (g .state) reads (g .registers) → registerOf (g .state) n ≡ 0
+      → n < length (e .origins)
       → Post (Unit {0}) (Aimed e home rest n (g .state)) (resultRegister e rest n (g .registers) (g .state) (firstOf (λ d. not (readLater rest d)) reads))
   target-aimed n reads g gd hs hn ln = go (firstOf (λ d. not (readLater rest d)) reads) refl
     where
@@ -213,7 +217,8 @@ module _ (e : Setting) (home : List ℕ) (wf : Sixteen e) (rest : List (List ℕ
       took (allocated t) k = record { good = k .good; held = k .held; keep = λ m u. k .keeps .keep m; only = k .only; grow = k .grow; fresh = k .fresh }
       took allLocked k = tt
 
-      go : (f : ℕ) → firstOf (λ d. not (readLater rest d)) reads ≡ f → Post (Unit {0}) (Aimed e home rest n (g .state)) (resultRegister e rest n (g .registers) (g .state) f)
+      go : (f : ℕ) → firstOf (λ d. not (readLater rest d)) reads ≡ f
+          → Post (Unit {0}) (Aimed e home rest n (g .state)) (resultRegister e rest n (g .registers) (g .state) f)
       go zero q = took (takeRegister e rest n (g .registers) (g .state)) (take-took e home wf rest n (g .registers) (g .state) gd hn ln)
       go (suc d) q =
           let p : T (member d reads) × (not (readLater rest d) ≡ true) = first-some (λ d. not (readLater rest d)) reads d q in

@@ -80,7 +80,8 @@ module _ (e : Setting) (home : List ℕ) (wf : Sixteen e) (hk : HomesOk home (e 
       go allLocked r = tt
   after rest os done last c s allLocked f k = tt
 
-  pub run-ran : (os : List Task) (done : List ℕ) (last : ℕ) (s : State) → TasksOk e home done last os → Invariant e home done (readsOf e os) s → Hot last (readsOf e os) s
+  pub run-ran : (os : List Task) (done : List ℕ) (last : ℕ) (s : State) → TasksOk e home done last os → Invariant e home done (readsOf e os) s
+      → Hot last (readsOf e os) s
       → Post (Unit {0}) (Ran e home (costs os) s) (allocate e os s)
   unfolding allocate allocateTask runTask readsOf
   run-ran [] done last s o i h = record { good = i .good; grow = omega arith }

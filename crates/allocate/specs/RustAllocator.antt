@@ -154,7 +154,8 @@ module _ (e : Setting) (fr : List Bool) where
   abbrev TwinTaken : Allocated Taken → Allocated Taken → Type 0
   TwinTaken y x = (y ≡ mapTaken fr x) × Post (Unit {0}) (λ g. Twin (g .state)) x
 
-  take-twin : (rest : List (List ℕ)) (n : ℕ) (locked : List ℕ) (s : State) → Twin s → Canonical e n → TwinTaken (takeRegister e rest n locked (withFresh fr s)) (takeRegister e rest n locked s)
+  take-twin : (rest : List (List ℕ)) (n : ℕ) (locked : List ℕ) (s : State) → Twin s → Canonical e n
+      → TwinTaken (takeRegister e rest n locked (withFresh fr s)) (takeRegister e rest n locked s)
   unfolding takeRegister evictKey
   take-twin rest n locked s t c = go (firstOf (λ r. isNone (ownerOf s r)) (e .registers)) refl
     where
@@ -166,12 +167,14 @@ module _ (e : Setting) (fr : List Bool) where
       some (suc o) q = omega arith
 
       victim : firstOf (λ r. isNone (ownerOf s r)) (e .registers) ≡ 0 → (r : ℕ) → T (member r L) → ownerOf s r ≡ suc (pred (ownerOf s r))
-      victim q r u = some (ownerOf s r) (first-none (λ r. isNone (ownerOf s r)) (e .registers) q r (filter-member (λ r. not (member r locked)) (e .registers) r u .0))
+      victim q r u =
+          some (ownerOf s r) (first-none (λ r. isNone (ownerOf s r)) (e .registers) q r (filter-member (λ r. not (member r locked)) (e .registers) r u .0))
 
       key-same : firstOf (λ r. isNone (ownerOf s r)) (e .registers) ≡ 0 → (r : ℕ) → T (member r L) → evictKey rest (withFresh fr s) r ≡ evictKey rest s r
       key-same q r u = rw (reload-twin s t (pred (ownerOf s r)) (t .own r (pred (ownerOf s r)) (victim q r u)))
 
-      best-twin : firstOf (λ r. isNone (ownerOf s r)) (e .registers) ≡ 0 → (b : ℕ) → ((r : ℕ) → b ≡ suc r → T (member r L)) → TwinTaken (takeBest e n (withFresh fr s) b) (takeBest e n s b)
+      best-twin : firstOf (λ r. isNone (ownerOf s r)) (e .registers) ≡ 0 → (b : ℕ) → ((r : ℕ) → b ≡ suc r → T (member r L))
+          → TwinTaken (takeBest e n (withFresh fr s) b) (takeBest e n s b)
       best-twin q zero m = (refl, tt)
       best-twin q (suc r) m =
           let v : ℕ = pred (ownerOf s r) in
@@ -181,7 +184,8 @@ module _ (e : Setting) (fr : List Bool) where
 
       go : (f : ℕ) → firstOf (λ r. isNone (ownerOf s r)) (e .registers) ≡ f → TwinTaken (takeFree e rest n locked (withFresh fr s) f) (takeFree e rest n locked s f)
       go (suc r) q = let w = place-twin n r s t c in ((λ i. allocated (record { register = r; state = w .0 i })), w .1)
-      go zero q = rw (best-ext (evictKey rest (withFresh fr s)) (evictKey rest s) L (key-same q)) (best-twin q (best (evictKey rest s) L) (best-member (evictKey rest s) L))
+      go zero q =
+          rw (best-ext (evictKey rest (withFresh fr s)) (evictKey rest s) L (key-same q)) (best-twin q (best (evictKey rest s) L) (best-member (evictKey rest s) L))
 
   bring-twin : (n r : ℕ) (s : State) → Twin s → Canonical e n → (bring e n r (withFresh fr s) ≡ withFresh fr (bring e n r s)) × Twin (bring e n r s)
   unfolding bring bringFrom
@@ -196,7 +200,8 @@ module _ (e : Setting) (fr : List Bool) where
       go true = src (originAt (e .origins) n)
       go false = emit-twin (fromSlot e (pred (slotOf s n)) r) s t
 
-  fetch-twin : (rest : List (List ℕ)) (n : ℕ) (locked : List ℕ) (s : State) → Twin s → Canonical e n → TwinTaken (fetch e rest n locked (withFresh fr s)) (fetch e rest n locked s)
+  fetch-twin : (rest : List (List ℕ)) (n : ℕ) (locked : List ℕ) (s : State) → Twin s → Canonical e n
+      → TwinTaken (fetch e rest n locked (withFresh fr s)) (fetch e rest n locked s)
   unfolding fetch
   fetch-twin rest n locked s t c = go (registerOf s n)
     where
@@ -212,14 +217,16 @@ module _ (e : Setting) (fr : List Bool) where
   abbrev TwinTakenAll : Allocated TakenAll → Allocated TakenAll → Type 0
   TwinTakenAll y x = (y ≡ mapTakenAll fr x) × Post (Unit {0}) (λ g. Twin (g .state)) x
 
-  fetchAll-twin : (rest : List (List ℕ)) (ns locked : List ℕ) (s : State) → Twin s → ((n : ℕ) → T (member n ns) → Canonical e n) → TwinTakenAll (fetchAll e rest ns locked (withFresh fr s)) (fetchAll e rest ns locked s)
+  fetchAll-twin : (rest : List (List ℕ)) (ns locked : List ℕ) (s : State) → Twin s → ((n : ℕ) → T (member n ns) → Canonical e n)
+      → TwinTakenAll (fetchAll e rest ns locked (withFresh fr s)) (fetchAll e rest ns locked s)
   unfolding fetchAll
   fetchAll-twin rest [] locked s t c = (refl, t)
   fetchAll-twin rest (n ∷ ns) locked s t c =
       let w = fetch-twin rest n locked s t (c n (or-first (eqb n n) (member n ns) (eqb-refl n))) in
       rw (w .0) (more (fetch e rest n locked s) (w .1) (λ l a k. fetchAll-twin rest ns l a k (λ m u. c m (or-second (eqb m n) (member m ns) u))))
     where
-      more : (x : Allocated Taken) → Post (Unit {0}) (λ g. Twin (g .state)) x → ((l : List ℕ) (a : State) → Twin a → TwinTakenAll (fetchAll e rest ns l (withFresh fr a)) (fetchAll e rest ns l a))
+      more : (x : Allocated Taken) → Post (Unit {0}) (λ g. Twin (g .state)) x
+          → ((l : List ℕ) (a : State) → Twin a → TwinTakenAll (fetchAll e rest ns l (withFresh fr a)) (fetchAll e rest ns l a))
           → TwinTakenAll (andThen (mapTaken fr x) (λ g. fetchAll e rest ns (locked ++ (g .register ∷ [])) (g .state))) (andThen x (λ g. fetchAll e rest ns (locked ++ (g .register ∷ [])) (g .state)))
       more (allocated g) k ih = ih (locked ++ (g .register ∷ [])) (g .state) k
       more allLocked k ih = (refl, tt)
@@ -232,7 +239,8 @@ module _ (e : Setting) (fr : List Bool) where
       was q m zero h = h
       was q m (suc r) h = unset (s .owner) r q m h
 
-  releaseAll-twin : (rest : List (List ℕ)) (ns : List ℕ) (s : State) → Twin s → (releaseAll e rest ns (withFresh fr s) ≡ withFresh fr (releaseAll e rest ns s)) × Twin (releaseAll e rest ns s)
+  releaseAll-twin : (rest : List (List ℕ)) (ns : List ℕ) (s : State) → Twin s
+      → (releaseAll e rest ns (withFresh fr s) ≡ withFresh fr (releaseAll e rest ns s)) × Twin (releaseAll e rest ns s)
   unfolding releaseAll
   releaseAll-twin rest [] s t = (refl, t)
   releaseAll-twin rest (n ∷ ns) s t = go (readLater rest n) (λ a k. releaseAll-twin rest ns a k)
@@ -245,7 +253,8 @@ module _ (e : Setting) (fr : List Bool) where
           let q = ih (release e n s) (p .1) in
           (ap (releaseAll e rest ns) (p .0) ∙ q .0, q .1)
 
-  result-twin : (rest : List (List ℕ)) (n : ℕ) (locked : List ℕ) (s : State) → Twin s → Canonical e n → (f : ℕ) → TwinTaken (resultRegister e rest n locked (withFresh fr s) f) (resultRegister e rest n locked s f)
+  result-twin : (rest : List (List ℕ)) (n : ℕ) (locked : List ℕ) (s : State) → Twin s → Canonical e n → (f : ℕ)
+      → TwinTaken (resultRegister e rest n locked (withFresh fr s) f) (resultRegister e rest n locked s f)
   unfolding lend
   result-twin rest n locked s t c zero = take-twin rest n locked s t c
   result-twin rest n locked s t c (suc d) = (refl, record { agree = t .agree; own = owner-set (pred (registerOf s d)) n s t c })
@@ -256,7 +265,8 @@ module _ (e : Setting) (fr : List Bool) where
   abbrev withFreshAll : TakenAll → TakenAll
   withFreshAll g = record { registers = g .registers; state = withFresh fr (g .state) }
 
-  compute-twin : (rest : List (List ℕ)) (reads : List ℕ) (n : ℕ) (g : TakenAll) → Twin (g .state) → Canonical e n → TwinState (runCompute e rest reads n (withFreshAll g)) (runCompute e rest reads n g)
+  compute-twin : (rest : List (List ℕ)) (reads : List ℕ) (n : ℕ) (g : TakenAll) → Twin (g .state) → Canonical e n
+      → TwinState (runCompute e rest reads n (withFreshAll g)) (runCompute e rest reads n g)
   unfolding runCompute
   compute-twin rest reads n g t c =
       let f : ℕ = firstOf (λ d. not (readLater rest d)) reads in
@@ -273,17 +283,20 @@ module _ (e : Setting) (fr : List Bool) where
           ((λ i. allocated ((ap (releaseAll e rest reads) (p .0) ∙ q .0) i)), q .1)
       more allLocked k = (refl, tt)
 
-  keep-twin : (rest : List (List ℕ)) (reads : List ℕ) (k v : ℕ) (g : TakenAll) → Twin (g .state) → TwinState (runKeep e rest reads k v (withFreshAll g)) (runKeep e rest reads k v g)
+  keep-twin : (rest : List (List ℕ)) (reads : List ℕ) (k v : ℕ) (g : TakenAll) → Twin (g .state)
+      → TwinState (runKeep e rest reads k v (withFreshAll g)) (runKeep e rest reads k v g)
   unfolding runKeep setSlot emit
   keep-twin rest reads k v g t =
       let q = releaseAll-twin rest reads (setSlot v k (emit (storeControl k (getD (g .registers) 0 0)) (g .state))) (record { agree = t .agree; own = t .own }) in
       ((λ i. allocated (q .0 i)), q .1)
 
-  preserve-twin : (rest : List (List ℕ)) (locked : List ℕ) (s : State) → Twin s → (h : ℕ) → ((n : ℕ) → h ≡ suc n → Canonical e n) → TwinState (preserve e rest locked (withFresh fr s) h) (preserve e rest locked s h)
+  preserve-twin : (rest : List (List ℕ)) (locked : List ℕ) (s : State) → Twin s → (h : ℕ) → ((n : ℕ) → h ≡ suc n → Canonical e n)
+      → TwinState (preserve e rest locked (withFresh fr s) h) (preserve e rest locked s h)
   preserve-twin rest locked s t zero c = (refl, t)
   preserve-twin rest locked s t (suc n) c = rw (t .agree n (c n refl)) (go (isFresh s n && readLater rest n))
     where
-      more : (x : Allocated Taken) → Post (Unit {0}) (λ g. Twin (g .state)) x → TwinState (andThen (mapTaken fr x) (λ g. allocated (g .state))) (andThen x (λ g. allocated (g .state)))
+      more : (x : Allocated Taken) → Post (Unit {0}) (λ g. Twin (g .state)) x
+          → TwinState (andThen (mapTaken fr x) (λ g. allocated (g .state))) (andThen x (λ g. allocated (g .state)))
       more (allocated g) k = (refl, k)
       more allLocked k = (refl, tt)
 
@@ -346,11 +359,14 @@ module _ (e : Setting) where
           (fr′, ap (λ (s : State). releaseAll e rest reads (hideAll e (homeCode c) i s)) (p .0) ∙ (ap (releaseAll e rest reads) (hide-same fr (homeCode c) i h (emit x a)) ∙ q .0), q .1)
       more allLocked k = tt
 
-  task-alike : (rest : List (List ℕ)) (reads : List ℕ) (o : Task) (fr : List Bool) (g : TakenAll) → OwnReads e rest → ((n : ℕ) → o ≡ computeTask n → Canonical e n) → Twin e fr (g .state)
+  task-alike : (rest : List (List ℕ)) (reads : List ℕ) (o : Task) (fr : List Bool) (g : TakenAll) → OwnReads e rest
+      → ((n : ℕ) → o ≡ computeTask n → Canonical e n) → Twin e fr (g .state)
       → Alike e (runTask e rest reads o g) (runTaskAll e rest reads o (withFreshAll e fr g))
   unfolding runTask runTaskAll
-  task-alike rest reads (computeTask n) fr g own c t = alike-of fr (runCompute e rest reads n g) (runCompute e rest reads n (withFreshAll e fr g)) (compute-twin e fr rest reads n g t (c n refl))
-  task-alike rest reads (keepTask k v) fr g own c t = alike-of fr (runKeep e rest reads k v g) (runKeep e rest reads k v (withFreshAll e fr g)) (keep-twin e fr rest reads k v g t)
+  task-alike rest reads (computeTask n) fr g own c t =
+      alike-of fr (runCompute e rest reads n g) (runCompute e rest reads n (withFreshAll e fr g)) (compute-twin e fr rest reads n g t (c n refl))
+  task-alike rest reads (keepTask k v) fr g own c t =
+      alike-of fr (runKeep e rest reads k v g) (runKeep e rest reads k v (withFreshAll e fr g)) (keep-twin e fr rest reads k v g t)
   task-alike rest reads (storeTask c′ i v) fr g own c t = store-alike rest reads c′ i fr g own t
 
   -- each computed node has no origin
@@ -380,7 +396,9 @@ module _ (e : Setting) where
           → ((fr′ : List Bool) (a : State) → Twin e fr′ a → Alike e (allocate e os a) (allocateAll e os (withFresh fr′ a)))
           → Alike e (andThen (andThen x (λ g. runTask e (readsOf e os) (taskReads (e .nodes) (e .origins) o) o g)) (λ s′. allocate e os s′))
           (andThen (andThen (mapTakenAll fr x) (λ g. runTaskAll e (readsOf e os) (taskReads (e .nodes) (e .origins) o) o g)) (λ s′. allocateAll e os s′))
-      next (allocated g) k f ih = last (runTask e (readsOf e os) (taskReads (e .nodes) (e .origins) o) o g) (runTaskAll e (readsOf e os) (taskReads (e .nodes) (e .origins) o) o (withFreshAll e fr g)) (f g k) ih
+      next (allocated g) k f ih =
+          last (runTask e (readsOf e os) (taskReads (e .nodes) (e .origins) o) o g)
+          (runTaskAll e (readsOf e os) (taskReads (e .nodes) (e .origins) o) o (withFreshAll e fr g)) (f g k) ih
       next allLocked k f ih = tt
 
   -- what is computed is not known before, so it has no load

@@ -1,4 +1,5 @@
--- codegen.rs: `max_by_key` in `take` compares pairs, (needs no spill, the next read's position or the greatest number); the allocator's key orders registers as these pairs do:
+-- codegen.rs: `max_by_key` in `take` compares pairs, (needs no spill, the next read's position or the greatest number); the allocator's key orders registers as
+-- these pairs do:
 -- `key-order`; and the position is the one of the Rust's `reads` and `next`: `next-read-key`. Assumes nothing.
 use mathlib.Core.Path.{_≡_, refl, sym, ap, _∙_}
 use mathlib.Core.Bool.{Bool, _||_, cond, false, true}
@@ -30,7 +31,8 @@ pub next-is : (top k : ℕ) (rs : List (List ℕ)) (n : ℕ) → nextRead top k 
 next-is top k [] n = refl
 next-is top k (r ∷ rs) n = go (member n r) (readLater rs n) (next-is top (suc k) rs n)
   where
-    go : (a l : Bool) → nextRead top (suc k) rs n ≡ cond l (suc k + distance rs n) top → cond a k (nextRead top (suc k) rs n) ≡ cond (a || l) (k + cond a 0 (suc (distance rs n))) top
+    go : (a l : Bool) → nextRead top (suc k) rs n ≡ cond l (suc k + distance rs n) top
+        → cond a k (nextRead top (suc k) rs n) ≡ cond (a || l) (k + cond a 0 (suc (distance rs n))) top
     go true l h = omega arith
     go false true h = h ∙ omega arith
     go false false h = h
@@ -86,11 +88,14 @@ key-order top k rest h s q r = go (reloadable s (pred (ownerOf s q))) (reloadabl
     w : ℕ
     w = pred (ownerOf s r)
 
-    go : (a c : Bool) → leb (cond a (suc (length rest)) 0 + distance rest v) (cond c (suc (length rest)) 0 + distance rest w) ≡ pairLe a (nextRead top k rest v) c (nextRead top k rest w)
-    go true true = let o = distance-order top k rest h v w in leb-same (suc (length rest) + distance rest v) (suc (length rest) + distance rest w) (nextRead top k rest v) (nextRead top k rest w) (λ l. o .0 (omega arith)) (λ l. omega (arith, o .1 l))
+    go : (a c : Bool)
+        → leb (cond a (suc (length rest)) 0 + distance rest v) (cond c (suc (length rest)) 0 + distance rest w) ≡ pairLe a (nextRead top k rest v) c (nextRead top k rest w)
+    go true true =
+        let o = distance-order top k rest h v w in leb-same (suc (length rest) + distance rest v) (suc (length rest) + distance rest w) (nextRead top k rest v) (nextRead top k rest w) (λ l. o .0 (omega arith)) (λ l. omega (arith, o .1 l))
     go true false = leb-no (suc (length rest) + distance rest v) (0 + distance rest w) (omega (arith, end rest w))
     go false true = leb-yes (0 + distance rest v) (suc (length rest) + distance rest w) (omega (arith, end rest v))
-    go false false = let o = distance-order top k rest h v w in leb-same (0 + distance rest v) (0 + distance rest w) (nextRead top k rest v) (nextRead top k rest w) (λ l. o .0 (omega arith)) (λ l. omega (arith, o .1 l))
+    go false false =
+        let o = distance-order top k rest h v w in leb-same (0 + distance rest v) (0 + distance rest w) (nextRead top k rest v) (nextRead top k rest w) (λ l. o .0 (omega arith)) (λ l. omega (arith, o .1 l))
 
 -- ---- the position is the one that the Rust's tables give
 

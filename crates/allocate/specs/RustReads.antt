@@ -82,7 +82,8 @@ push-at k (x ∷ xs) table n h = push-at k xs (push k x table) n (rw length-set 
         rw (s, eq-eqb n x e) (append-assoc (getD table n []) (k ∷ []) (here k xs n))
     go (no e) = rw (getD-set-other table x n (getD table x [] ++ (k ∷ [])) [] e, ne-eqb n x e)
 
-table-at : (k : ℕ) (rest : List (List ℕ)) (table : List (List ℕ)) (n : ℕ) → n < length table → getD (readTable k rest table) n [] ≡ getD table n [] ++ positions k rest n
+table-at : (k : ℕ) (rest : List (List ℕ)) (table : List (List ℕ)) (n : ℕ) → n < length table
+    → getD (readTable k rest table) n [] ≡ getD table n [] ++ positions k rest n
 table-at k [] table n h = sym (append-nil (getD table n []))
 table-at k (r ∷ rest) table n h =
     table-at (suc k) rest (pushAll k r table) n (rw (push-length k r table) h)
@@ -116,7 +117,8 @@ advance-at k (x ∷ xs) table next n h = advance-at k xs table after n (rw lengt
     twice true = rw (passed-once k left)
     twice false = refl
 
-    go : Dec (n ≡ x) → (let l : List ℕ = drop (getD after n 0) (getD table n []) in cond (member n xs) (drop (passed k l) l) l) ≡ cond (eqb n x || member n xs) (drop (passed k left) left) left
+    go : Dec (n ≡ x)
+        → (let l : List ℕ = drop (getD after n 0) (getD table n []) in cond (member n xs) (drop (passed k l) l) l) ≡ cond (eqb n x || member n xs) (drop (passed k left) left) left
     go (yes e) =
         let s : getD after n 0 ≡ getD next n 0 + passed k left = rw (← e) (getD-set-same next n (getD next n 0 + passed k left) 0 h) in
         rw (s, ← drop-drop (passed k left) (getD next n 0) (getD table n []), eq-eqb n x e) (twice (member n xs))
@@ -187,7 +189,8 @@ first-position : (k : ℕ) (rest : List (List ℕ)) (n : ℕ) → elementAt (pos
 first-position k [] n = refl
 first-position k (r ∷ rest) n = go r (first-position (suc k) rest n)
   where
-    later : (b : Bool) → elementAt (positions (suc k) rest n) 0 ≡ cond b (suc (suc k + distance rest n)) 0 → elementAt (positions (suc k) rest n) 0 ≡ cond b (suc (k + suc (distance rest n))) 0
+    later : (b : Bool) → elementAt (positions (suc k) rest n) 0 ≡ cond b (suc (suc k + distance rest n)) 0
+        → elementAt (positions (suc k) rest n) 0 ≡ cond b (suc (k + suc (distance rest n))) 0
     later true h = h ∙ omega arith
     later false h = h
 
@@ -196,14 +199,16 @@ first-position k (r ∷ rest) n = go r (first-position (suc k) rest n)
     go [] ih = later (readLater rest n) ih
     go (x ∷ xs) ih = two (eqb n x) (go xs ih)
       where
-        two : (b : Bool) → elementAt (here k xs n ++ positions (suc k) rest n) 0 ≡ cond (member n xs || readLater rest n) (suc (k + cond (member n xs) 0 (suc (distance rest n)))) 0
+        two : (b : Bool)
+            → elementAt (here k xs n ++ positions (suc k) rest n) 0 ≡ cond (member n xs || readLater rest n) (suc (k + cond (member n xs) 0 (suc (distance rest n)))) 0
             → elementAt (cond b (k ∷ here k xs n) (here k xs n) ++ positions (suc k) rest n) 0
             ≡ cond ((b || member n xs) || readLater rest n) (suc (k + cond (b || member n xs) 0 (suc (distance rest n)))) 0
         two true h = omega arith
         two false h = h
 
 -- WHEN THE OPS `done` ARE DONE, the Rust's next read of node n, of `nodes` nodes, is the first position from there on whose op reads it; there is one exactly
--- where the node is read later. Before `next` is advanced for the op at hand, `done` are those before it and `rest` begins with its own reads; afterwards it is among `done`
+-- where the node is read later. Before `next` is advanced for the op at hand, `done` are those before it and `rest` begins with its own reads; afterwards it is
+-- among `done`
 pub next-read-same : (nodes n : ℕ) (done rest : List (List ℕ)) → n < nodes
     → let table : List (List ℕ) = readTable 0 (done ++ rest) (replicate nodes []) in
     nextReadIn table (advanceAll 0 done table (replicate nodes 0)) n ≡ cond (readLater rest n) (suc (length done + distance rest n)) 0

@@ -1,4 +1,5 @@
--- codegen.rs: `preserve` and the loop after a store as they are written: they visit every node. Repeated loads share the first node, so one visit does. Assumes nothing.
+-- codegen.rs: `preserve` and the loop after a store as they are written: they visit every node. Repeated loads share the first node, so one visit does. Assumes
+-- nothing.
 use mathlib.Core.Path.{_∙_, _≡_, refl, sym}
 use mathlib.Core.Logic.{_≢_, _⊎_, inl, inr}
 use mathlib.Core.Bool.{Bool, _&&_, cond, false, true}
@@ -50,7 +51,8 @@ own-reads e (o ∷ os) m t = go (or-pass (member m (taskReads (e .nodes) (e .ori
 module _ (e : Setting) (rest : List (List ℕ)) (own : OwnReads e rest) (c i : ℕ) where
   -- a node that is not the first is passed by
   pass-by : (s : State) (m : ℕ) → (homeOf (e .origins) c i ≡ suc m → ⊥) → (isLoad c i (originAt (e .origins) m) && (isFresh s m && readLater rest m)) ≡ false
-  pass-by s m no-home = go (isLoad c i (originAt (e .origins) m)) (isFresh s m) (readLater rest m) (λ t u. no-home (own m u c i (is-load c i (originAt (e .origins) m) t)))
+  pass-by s m no-home =
+      go (isLoad c i (originAt (e .origins) m)) (isFresh s m) (readLater rest m) (λ t u. no-home (own m u c i (is-load c i (originAt (e .origins) m) t)))
     where
       go : (a f l : Bool) → (T a → T l → ⊥) → (a && (f && l)) ≡ false
       go true true true h = absurd (h tt tt)
@@ -87,7 +89,9 @@ module _ (e : Setting) (rest : List (List ℕ)) (own : OwnReads e rest) (c i : �
       none-left lk t = skips (countUp (suc n) l) lk t (λ m u p. omega (arith, up-ge (suc n) l m u, p, q))
 
       two-operands : (b : Bool) → visit (true && b) e rest n locked s (λ lk t. preserveAll e rest c i lk t (countUp (suc n) l)) ≡ preserveIf b e rest n locked s
-      two-operands true = bind-same (fetch e rest n locked s) (λ g. preserveAll e rest c i (locked ++ (g .register ∷ [])) (g .state) (countUp (suc n) l)) (λ g. none-left (locked ++ (g .register ∷ [])) (g .state))
+      two-operands true =
+          bind-same (fetch e rest n locked s) (λ g. preserveAll e rest c i (locked ++ (g .register ∷ [])) (g .state) (countUp (suc n) l))
+          (λ g. none-left (locked ++ (g .register ∷ [])) (g .state))
       two-operands false = none-left locked s
 
       go : Dec (k ≡ n) → (suc k ≤ n → preserveAll e rest c i locked s (countUp (suc k) l) ≡ preserveIf (isFresh s n && readLater rest n) e rest n locked s)
@@ -96,7 +100,8 @@ module _ (e : Setting) (rest : List (List ℕ)) (own : OwnReads e rest) (c i : �
       go (no z) ih = rw (pass-by s k (λ p. z (omega (arith, p, q)))) (ih (omega arith))
 
   -- `preserve` as it is written is the preserve of the allocator
-  pub preserve-same : (locked : List ℕ) (s : State) → preserveAll e rest c i locked s (countUp 0 (length (e .origins))) ≡ preserve e rest locked s (homeOf (e .origins) c i)
+  pub preserve-same : (locked : List ℕ) (s : State)
+      → preserveAll e rest c i locked s (countUp 0 (length (e .origins))) ≡ preserve e rest locked s (homeOf (e .origins) c i)
   preserve-same locked s = go (homeOf (e .origins) c i) refl
     where
       go : (h : ℕ) → homeOf (e .origins) c i ≡ h → preserveAll e rest c i locked s (countUp 0 (length (e .origins))) ≡ preserve e rest locked s h
@@ -122,7 +127,8 @@ hide-at c i (x ∷ xs) (f ∷ fs) zero = refl
 hide-at c i (x ∷ xs) (f ∷ fs) (suc m) = hide-at c i xs fs m
 
 -- it agrees with the allocator's on every node that can be read: a source's first node, or one with no load
-pub stale-agrees : (e : Setting) (c i : ℕ) (s : State) (m : ℕ) → Canonical e m → getD (hideLoads c i (e .origins) (s .fresh)) m false ≡ isFresh (stale (homeOf (e .origins) c i) s) m
+pub stale-agrees : (e : Setting) (c i : ℕ) (s : State) (m : ℕ) → Canonical e m
+    → getD (hideLoads c i (e .origins) (s .fresh)) m false ≡ isFresh (stale (homeOf (e .origins) c i) s) m
 unfolding stale
 stale-agrees e c i s m own = hide-at c i (e .origins) (s .fresh) m ∙ go (homeOf (e .origins) c i) refl
   where

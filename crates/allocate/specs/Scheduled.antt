@@ -37,11 +37,13 @@ module _ (ns : List Node) (ss : List Origin) (registers home : List ℕ) (inCont
   read-ok : (done : List ℕ) (a : ℕ) → Usable done a → (canonical ss a < length ss) × T (known settingOf done (canonical ss a))
   read-ok done a u = go (u .1)
     where
-      go : T (hasOrigin (originAt ss a)) ⊎ ((originAt ss a ≡ noOrigin) × T (member a done)) → (canonical ss a < length ss) × T (known settingOf done (canonical ss a))
+      go : T (hasOrigin (originAt ss a)) ⊎ ((originAt ss a ≡ noOrigin) × T (member a done))
+          → (canonical ss a < length ss) × T (known settingOf done (canonical ss a))
       go (inl t) = let r = canonical-origin ss a (u .0) t in (r .0, or-second (member (canonical ss a) done) (hasOrigin (originAt ss (canonical ss a))) (r .1))
       go (inr t) = rw (canonical-computed ss a (t .0)) (u .0, or-first (member a done) (hasOrigin (originAt ss a)) (t .1))
 
-  pub reads-comp : (done : List ℕ) (n : ℕ) → ((a : ℕ) → T (member a (operands (nodeAt ns n))) → Usable done a) → ReadsOk settingOf done (taskReads ns ss (computeTask n))
+  pub reads-comp : (done : List ℕ) (n : ℕ) → ((a : ℕ) → T (member a (operands (nodeAt ns n))) → Usable done a)
+      → ReadsOk settingOf done (taskReads ns ss (computeTask n))
   unfolding taskReads
   reads-comp done n h m t =
       let r = member-map (canonical ss) (operands (nodeAt ns n)) m t in
@@ -112,7 +114,8 @@ module _ (ns : List Node) (ss : List Origin) (registers home : List ℕ) (inCont
           is-done a lt (inl u) = u
           is-done a lt (inr u) = absurd (omega (arith, ascending-ge n (n ∷ rest) a (omega arith, p .high .1) u))
 
-          before : (a : ℕ) → T (member a (operands (nodeAt ns n))) → T (hasOrigin (originAt ss a)) ⊎ ((originAt ss a ≡ noOrigin) × T (member a comps)) → T (hasOrigin (originAt ss a)) ⊎ ((originAt ss a ≡ noOrigin) × T (member a done))
+          before : (a : ℕ) → T (member a (operands (nodeAt ns n))) → T (hasOrigin (originAt ss a)) ⊎ ((originAt ss a ≡ noOrigin) × T (member a comps))
+              → T (hasOrigin (originAt ss a)) ⊎ ((originAt ss a ≡ noOrigin) × T (member a done))
           before a t (inl u) = inl u
           before a t (inr u) = inr (u .0, is-done a (ord n a t) (p .split a (u .1)))
 
@@ -134,7 +137,8 @@ module _ (ns : List Node) (ss : List Origin) (registers home : List ℕ) (inCont
           go₂ (inl u) = u
           go₂ (inr u) = absurd (off u)
 
-          go : T (hasOrigin (originAt ss a)) ⊎ ((originAt ss a ≡ noOrigin) × T (member a comps)) → T (hasOrigin (originAt ss a)) ⊎ ((originAt ss a ≡ noOrigin) × T (member a done))
+          go : T (hasOrigin (originAt ss a)) ⊎ ((originAt ss a ≡ noOrigin) × T (member a comps))
+              → T (hasOrigin (originAt ss a)) ⊎ ((originAt ss a ≡ noOrigin) × T (member a done))
           go (inl u) = inl u
           go (inr u) = inr (u .0, go₂ (p .split a (u .1)))
 
@@ -170,7 +174,8 @@ module _ (ns : List Node) (ss : List Origin) (registers home : List ℕ) (inCont
                 (suc n)),
           )
 
-      pub schedule-ok : (ws : List Write) (out : ℕ) → AllWrites (λ w. Value (w .value)) ws → Value out → Ascending 0 comps → TasksOk settingOf home [] 0 (schedule ns ss ws comps out)
+      pub schedule-ok : (ws : List Write) (out : ℕ) → AllWrites (λ w. Value (w .value)) ws → Value out → Ascending 0 comps
+          → TasksOk settingOf home [] 0 (schedule ns ss ws comps out)
       unfolding schedule
       schedule-ok ws out a vo asc =
           let p0 : Parts [] comps 0 = record { split = λ m t. inr t; part = λ m t. t; low = λ m t. absurd t; high = asc } in
@@ -185,7 +190,8 @@ module _ (ns : List Node) (ss : List Origin) (registers home : List ℕ) (inCont
       control-ok [] done k last p = tt
       control-ok (n ∷ rest) done k last p = go (getD home n 0) refl (λ last. control-ok rest (n ∷ done) (suc n) last (parts-next done n rest k p))
         where
-          go : (h : ℕ) → getD home n 0 ≡ h → ((last : ℕ) → TasksOk settingOf home (n ∷ done) last (controlTasks home rest)) → TasksOk settingOf home done last (controlTask n h ++ controlTasks home rest)
+          go : (h : ℕ) → getD home n 0 ≡ h → ((last : ℕ) → TasksOk settingOf home (n ∷ done) last (controlTasks home rest))
+              → TasksOk settingOf home done last (controlTask n h ++ controlTasks home rest)
           go zero q f = let c = computation-ok done n rest k p in (c .0, c .1, c .2, f (suc n))
           go (suc j) q f =
               let c = computation-ok done n rest k p in
@@ -207,7 +213,8 @@ un-not false t = refl
 
 module _ (b : Flow) (v : GoodFlow b) where
   -- the sample phase
-  pub sample-tasks-ok : (registers : List ℕ) → TasksOk (settingOf (b .nodes) (ss b v) registers [] false 0) [] [] 0 (schedule (b .nodes) (ss b v) (writes b) (comps b v) (b .output))
+  pub sample-tasks-ok : (registers : List ℕ)
+      → TasksOk (settingOf (b .nodes) (ss b v) registers [] false 0) [] [] 0 (schedule (b .nodes) (ss b v) (writes b) (comps b v) (b .output))
   unfolding writes
   sample-tasks-ok registers =
       schedule-ok (b .nodes) (ss b v) registers [] false 0 (comps b v) (v .ord)
@@ -221,7 +228,8 @@ module _ (b : Flow) (v : GoodFlow b) where
       (sample-ascending b v)
 
   -- the control phase
-  pub control-tasks-ok : (registers : List ℕ) (fixed : ℕ) → TasksOk (settingOf (b .nodes) (cs b v) registers (slots b v) true fixed) (slots b v) [] 0 (controlTasks (slots b v) (ccomps b v))
+  pub control-tasks-ok : (registers : List ℕ) (fixed : ℕ)
+      → TasksOk (settingOf (b .nodes) (cs b v) registers (slots b v) true fixed) (slots b v) [] 0 (controlTasks (slots b v) (ccomps b v))
   control-tasks-ok registers fixed =
       control-all-ok (b .nodes) (cs b v) registers (slots b v) true fixed (ccomps b v) (v .ord)
       (λ n t. let c = ccomps-in b v n t in (rw (length-map (b .nodes) controlOrigin) (c .0), control-at (b .nodes) n (c .0) ∙ control-computed (nodeAt (b .nodes) n) (c .2)))

@@ -39,7 +39,8 @@ avail s n = isSome (registerOf s n) || reloadable s n
 -- what take can do
 pub data TakeView (e : Setting) (n : ℕ) (locked : List ℕ) (s : State) : Allocated Taken → Type 0 where
   was-free : (r : ℕ) → ownerOf s r ≡ 0 → T (member r (e .registers)) → TakeView e n locked s (allocated (record { register = r; state = place n r s }))
-  evicted : (r v : ℕ) → ownerOf s r ≡ suc v → T (member r (e .registers)) → (T (member r locked) → ⊥) → TakeView e n locked s (allocated (record { register = r; state = place n r (evict e v r s) }))
+  evicted : (r v : ℕ) → ownerOf s r ≡ suc v → T (member r (e .registers)) → (T (member r locked) → ⊥)
+      → TakeView e n locked s (allocated (record { register = r; state = place n r (evict e v r s) }))
   none : TakeView e n locked s allLocked
 
 isZero-suc : (n : ℕ) → isNone n ≡ false → n ≡ suc (pred n)
@@ -81,7 +82,8 @@ pub max-le : (a c n : ℕ) → a ≤ n → c ≤ n → max a c ≤ n
 max-le a c n h k = omega arith
 
 -- no more registers are held than there are usable ones
-count-inside : (k : ℕ) (registers owner : List ℕ) → Ascending k registers → ((r n : ℕ) → getD owner r 0 ≡ suc n → T (member (k + r) registers)) → count owner ≤ length registers
+count-inside : (k : ℕ) (registers owner : List ℕ) → Ascending k registers → ((r n : ℕ) → getD owner r 0 ≡ suc n → T (member (k + r) registers))
+    → count owner ≤ length registers
 count-inside k registers [] a h = omega arith
 count-inside k [] (zero ∷ xs) a h = count-inside (suc k) [] xs tt (λ r n q. h (suc r) n q)
 count-inside k [] (suc x ∷ xs) a h = absurd (h 0 x refl)
@@ -101,7 +103,8 @@ count-inside k (y ∷ ys) (x ∷ xs) a h = go (ℕ-discrete y k) x refl (λ b f.
     found : y ≡ k → Found ys
     found e r n z = behind e r (or-pass (eqb (suc k + r) y) (member (suc k + r) ys) (later r n z))
 
-    go : Dec (y ≡ k) → (w : ℕ) → x ≡ w → (Ascending (suc k) ys → Found ys → count xs ≤ length ys) → (Ascending (suc k) (y ∷ ys) → Found (y ∷ ys) → count xs ≤ suc (length ys))
+    go : Dec (y ≡ k) → (w : ℕ) → x ≡ w → (Ascending (suc k) ys → Found ys → count xs ≤ length ys)
+        → (Ascending (suc k) (y ∷ ys) → Found (y ∷ ys) → count xs ≤ suc (length ys))
         → count (w ∷ xs) ≤ suc (length ys)
     go (yes e) zero q f g = omega (arith, f (rw e at (a .1)) (found e))
     go (yes e) (suc w) q f g = omega (arith, f (rw e at (a .1)) (found e))
@@ -116,7 +119,8 @@ owners-count registers owner a h = count-inside 0 registers owner a (λ r n q. l
 -- ---- the parts of take
 
 module _ (e : Setting) (home : List ℕ) (wf : Sixteen e) where
-  pub good-place : (n r : ℕ) (s : State) → Good e home s → ownerOf s r ≡ 0 → registerOf s n ≡ 0 → n < length (e .origins) → T (member r (e .registers)) → Good e home (place n r s)
+  pub good-place : (n r : ℕ) (s : State) → Good e home s → ownerOf s r ≡ 0 → registerOf s n ≡ 0 → n < length (e .origins) → T (member r (e .registers))
+      → Good e home (place n r s)
   unfolding place
   good-place n r s g hr hn ln mr =
       let placed : Regs (e .registers) (set (s .holder) n (suc r)) (set (s .owner) r (suc n)) = regs-place (e .registers) (s .holder) (s .owner) (g .registers) n r hr hn (omega (arith, g .holders)) (omega (arith, g .owners, wf .small r mr)) mr in
@@ -250,7 +254,8 @@ keeps-vacate locked v r s re hv nl =
     keep m (yes z) h = or-second (isSome (getD (set (s .holder) v 0) m 0)) (reloadable s m) (rw z re)
     keep m (no z) h = rw (getD-set-other (s .holder) v m 0 0 z) h
 
-pub keeps-spill : (locked : List ℕ) (e : Setting) (v r : ℕ) (s : State) → v < length (s .spilled) → Keeps locked s (spillOut e v r s) × T (reloadable (spillOut e v r s) v)
+pub keeps-spill : (locked : List ℕ) (e : Setting) (v r : ℕ) (s : State) → v < length (s .spilled)
+    → Keeps locked s (spillOut e v r s) × T (reloadable (spillOut e v r s) v)
 keeps-spill locked e v r s lv =
     let sp : Spilt v s (spillOut e v r s) = spilt e v r s in
     let k : ℕ = sp .spilled .0 in

@@ -100,7 +100,8 @@ module _ (e : Setting) (home : List ℕ) (wf : Sixteen e) (done : List ℕ) (res
   zero-of zero h = refl
   zero-of (suc q) h = absurd (h q refl)
 
-  pub compute-next : (reads : List ℕ) (n : ℕ) (s : State) (g : TakenAll) → Invariant e home done (reads ∷ rest) s → ReadsOk e done reads → n < length (e .origins) → (T (known e done n) → ⊥)
+  pub compute-next : (reads : List ℕ) (n : ℕ) (s : State) (g : TakenAll) → Invariant e home done (reads ∷ rest) s → ReadsOk e done reads
+      → n < length (e .origins) → (T (known e done n) → ⊥)
       → FetchedAll e home [] reads s g
       → Post (Unit {0}) (λ s′. Next e home (n ∷ done) rest (2 * length reads + 2) s s′ × (T (readLater rest n) → T (isSome (registerOf s′ n)))) (runCompute e rest reads n g)
   unfolding runCompute
@@ -129,8 +130,10 @@ module _ (e : Setting) (home : List ℕ) (wf : Sixteen e) (done : List ℕ) (res
             hot,
           )
         where
-          ready : (m : ℕ) → T (readLater rest m) → (m ≡ n) ⊎ T (known e done m) → (T (readLater rest n) → T (isSome (registerOf (releaseAll e rest reads (emitOperation x (t .state))) n)))
-              → (T (avail s m) → T (avail (releaseAll e rest reads (emitOperation x (t .state))) m)) → T (avail (releaseAll e rest reads (emitOperation x (t .state))) m)
+          ready : (m : ℕ) → T (readLater rest m) → (m ≡ n) ⊎ T (known e done m)
+              → (T (readLater rest n) → T (isSome (registerOf (releaseAll e rest reads (emitOperation x (t .state))) n)))
+              → (T (avail s m) → T (avail (releaseAll e rest reads (emitOperation x (t .state))) m))
+              → T (avail (releaseAll e rest reads (emitOperation x (t .state))) m)
           ready m y (inl z) hot go = avail-held (releaseAll e rest reads (emitOperation x (t .state))) m (rw z (hot (rw z at y)))
           ready m y (inr z) hot go = go (i .ready m (or-second (member m reads) (readLater rest m) y) z)
 
@@ -186,7 +189,8 @@ and-intro true b t u = u
 and-intro false b t u = absurd t
 
 -- a value that is fresh no more is lost only if it was nowhere else
-stale-keep : (fr : List Bool) (n : ℕ) → (h : Bool) (sl : Bool) (m : ℕ) → (m ≡ n → T (getD fr n false) → T h) → T (h || (sl || getD fr m false)) → T (h || (sl || getD (set fr n false) m false))
+stale-keep : (fr : List Bool) (n : ℕ) → (h : Bool) (sl : Bool) (m : ℕ) → (m ≡ n → T (getD fr n false) → T h) → T (h || (sl || getD fr m false))
+    → T (h || (sl || getD (set fr n false) m false))
 stale-keep fr n h sl m safe t = go (ℕ-discrete m n)
   where
     sure : (a b c : Bool) (d : Bool) → (T c → T a) → T (a || (b || c)) → T (a || (b || d))
@@ -271,7 +275,8 @@ module _ (e : Setting) (home : List ℕ) (wf : Sixteen e) (done : List ℕ) (res
       (preserve-saved e home wf rest (g .registers) (g .state) (f .good) h (λ n q. hh n q .0))
       (λ t k. last h t k hh (storeAction c i₀ (getD (g .registers) 0 0)))
     where
-      last : (h : ℕ) (t : State) → Saved e home rest (g .registers) h (g .state) t → ((n : ℕ) → h ≡ suc n → (n < length (e .origins)) × T (known e done n)) → (x : Action)
+      last : (h : ℕ) (t : State) → Saved e home rest (g .registers) h (g .state) t → ((n : ℕ) → h ≡ suc n → (n < length (e .origins)) × T (known e done n))
+          → (x : Action)
           → Next e home done rest (2 * length reads + 3) s (releaseAll e rest reads (stale h (emit x t)))
       last h t k hh x =
           let a : State = emit x t in

@@ -162,7 +162,8 @@ expanded : (b : Block) → Valid b → (table : List ℕ) → 3 * expandedLength
 expanded b v table h =
     omega (arith, graph-words b v, length-append (graphOf b .nodes) (drop (3 * expandedLength b) table), length-drop (3 * expandedLength b) table)
 
-compiled-lengths : (b : Block) → Valid b → (mask : ℕ) (t : Tables) → Room b t → (r : Allocated Compiled) → compile (graphOf b) mask ≡ r → SameLengths t (compiledTables r b t)
+compiled-lengths : (b : Block) → Valid b → (mask : ℕ) (t : Tables) → Room b t → (r : Allocated Compiled) → compile (graphOf b) mask ≡ r
+    → SameLengths t (compiledTables r b t)
 compiled-lengths b v mask t q (allocated c) e =
     let f = compile-bounds b v mask c e in
     record {

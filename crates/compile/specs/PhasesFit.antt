@@ -72,14 +72,16 @@ module _ (b : Flow) (v : GoodFlow b) where
             (and-both (getD (inv b v) n false) (isComputed (nodeAt (b .nodes) n)) (i .1) (and-second (getD (cneed b v) n false) (isComputed (nodeAt (b .nodes) n)) tp))),
       )
 
-  pub control-ran : (mask : ℕ) → Post (Unit {0}) (Ran (controlSetting b (planOf b) mask) (slots b v) (costs ((planOf b) .controlTasks)) (begin (controlSetting b (planOf b) mask))) (allocate (controlSetting b (planOf b) mask) ((planOf b) .controlTasks) (begin (controlSetting b (planOf b) mask)))
+  pub control-ran : (mask : ℕ)
+      → Post (Unit {0}) (Ran (controlSetting b (planOf b) mask) (slots b v) (costs ((planOf b) .controlTasks)) (begin (controlSetting b (planOf b) mask))) (allocate (controlSetting b (planOf b) mask) ((planOf b) .controlTasks) (begin (controlSetting b (planOf b) mask)))
   unfolding planOf controlSetting
   control-ran mask =
       let e : Setting = settingOf (b .nodes) (cs b v) (usable mask) (slots b v) true (count (slots b v)) in
       run-ran e (slots b v) (record { small = member-usable mask; ascending = usable-ascending mask }) (number-ok (homes b v)) (controlTasks (slots b v) (ccomps b v)) [] 0 (begin e)
       (control-tasks-ok b v (usable mask) (count (slots b v))) (begin-inv e (slots b v) _) (λ w q t. absurd (omega arith))
 
-  pub sample-ran : (mask : ℕ) → Post (Unit {0}) (Ran (sampleSetting b (planOf b) mask) [] (costs ((planOf b) .sampleTasks)) (begin (sampleSetting b (planOf b) mask))) (allocate (sampleSetting b (planOf b) mask) ((planOf b) .sampleTasks) (begin (sampleSetting b (planOf b) mask)))
+  pub sample-ran : (mask : ℕ)
+      → Post (Unit {0}) (Ran (sampleSetting b (planOf b) mask) [] (costs ((planOf b) .sampleTasks)) (begin (sampleSetting b (planOf b) mask))) (allocate (sampleSetting b (planOf b) mask) ((planOf b) .sampleTasks) (begin (sampleSetting b (planOf b) mask)))
   unfolding planOf sampleSetting
   sample-ran mask =
       let e : Setting = settingOf (b .nodes) (ss b v) (usable mask) [] false 0 in
@@ -109,7 +111,8 @@ module _ (b : Flow) (v : GoodFlow b) where
   slots-numbered : count (slots b v) ≤ length (b .nodes)
   slots-numbered = omega (arith, count-le (slots b v), number-length 0 (homes b v), homes-length b v)
 
-  control-fits : (mask : ℕ) → let e : Setting = controlSetting b (planOf b) mask in Post (Unit {0}) (PhaseFits mask (7 * length (ccomps b v)) (length (b .nodes))) (allocate e ((planOf b) .controlTasks) (begin e))
+  control-fits : (mask : ℕ)
+      → let e : Setting = controlSetting b (planOf b) mask in Post (Unit {0}) (PhaseFits mask (7 * length (ccomps b v)) (length (b .nodes))) (allocate e ((planOf b) .controlTasks) (begin e))
   unfolding controlSetting planOf
   control-fits mask =
       let e : Setting = controlSetting b (planOf b) mask in
@@ -121,7 +124,8 @@ module _ (b : Flow) (v : GoodFlow b) where
         most = h .0 .good .held;
       })
 
-  sample-fits : (mask : ℕ) → let e : Setting = sampleSetting b (planOf b) mask in Post (Unit {0}) (PhaseFits mask (6 * length (comps b v) + 5 * (length (b .states) + length (b .delays) + 1)) 0) (allocate e ((planOf b) .sampleTasks) (begin e))
+  sample-fits : (mask : ℕ)
+      → let e : Setting = sampleSetting b (planOf b) mask in Post (Unit {0}) (PhaseFits mask (6 * length (comps b v) + 5 * (length (b .states) + length (b .delays) + 1)) 0) (allocate e ((planOf b) .sampleTasks) (begin e))
   unfolding sampleSetting planOf
   sample-fits mask =
       let e : Setting = sampleSetting b (planOf b) mask in

@@ -72,20 +72,23 @@ module _ (g : Flow) (v : GoodFlow g) where
   unfolding planRust
   plan-same = ap (planFrom g) (sym (sample-needed g v)) ∙ plan-fields
 
-  control-alike : (mask : ℕ) → let e : Setting = controlSetting g (planOf g) mask in Alike e (allocate e ((planOf g) .controlTasks) (begin e)) (allocateAll e ((planOf g) .controlTasks) (begin e))
+  control-alike : (mask : ℕ)
+      → let e : Setting = controlSetting g (planOf g) mask in Alike e (allocate e ((planOf g) .controlTasks) (begin e)) (allocateAll e ((planOf g) .controlTasks) (begin e))
   unfolding controlSetting planOf
   control-alike mask =
       let e : Setting = settingOf (g .nodes) (cs g v) (usable mask) (slots g v) true (count (slots g v)) in
       allocate-same e (slots g v) [] 0 (controlTasks (slots g v) (ccomps g v)) (control-tasks-ok g v (usable mask) (count (slots g v)))
 
-  sample-alike : (mask : ℕ) → let e : Setting = sampleSetting g (planOf g) mask in Alike e (allocate e ((planOf g) .sampleTasks) (begin e)) (allocateAll e ((planOf g) .sampleTasks) (begin e))
+  sample-alike : (mask : ℕ)
+      → let e : Setting = sampleSetting g (planOf g) mask in Alike e (allocate e ((planOf g) .sampleTasks) (begin e)) (allocateAll e ((planOf g) .sampleTasks) (begin e))
   unfolding sampleSetting planOf
   sample-alike mask =
       let e : Setting = settingOf (g .nodes) (ss g v) (usable mask) [] false 0 in
       allocate-same e [] [] 0 ((planOf g) .sampleTasks) (sample-tasks-ok g v (usable mask))
 
   -- steps, slots and registers do not depend on what is fresh
-  second : (e₂ : Setting) (c : State) (fr : List Bool) (x y : Allocated State) → Alike e₂ x y → andThen y (λ s. allocated (draftOf (withFresh fr c) s)) ≡ andThen x (λ s. allocated (draftOf c s))
+  second : (e₂ : Setting) (c : State) (fr : List Bool) (x y : Allocated State) → Alike e₂ x y
+      → andThen y (λ s. allocated (draftOf (withFresh fr c) s)) ≡ andThen x (λ s. allocated (draftOf c s))
   unfolding draftOf
   second e₂ c fr (allocated s) (allocated t) k = ap (λ (z : State). allocated (draftOf (withFresh fr c) z)) (k .1)
   second e₂ c fr (allocated s) allLocked k = absurd k

@@ -20,7 +20,8 @@ pub member-filter : (p : ℕ → Bool) (xs : List ℕ) (r : ℕ) → T (member r
 member-filter p [] r t u = absurd t
 member-filter p (x ∷ xs) r t u = go (p x) refl (or-pass (eqb r x) (member r xs) t) (λ v. member-filter p xs r v u)
   where
-    go : (b : Bool) → p x ≡ b → T (eqb r x) ⊎ T (member r xs) → (T (member r xs) → T (member r (filter p xs))) → T (member r (cond b (x ∷ filter p xs) (filter p xs)))
+    go : (b : Bool) → p x ≡ b → T (eqb r x) ⊎ T (member r xs) → (T (member r xs) → T (member r (filter p xs)))
+        → T (member r (cond b (x ∷ filter p xs) (filter p xs)))
     go true q (inl v) ih = or-first (eqb r x) (member r (filter p xs)) v
     go true q (inr v) ih = or-second (eqb r x) (member r (filter p xs)) (ih v)
     go false q (inl v) ih = absurd (rw q at (rw (eqb→eq r x v) at u))
@@ -34,7 +35,8 @@ filter-member p (x ∷ xs) r t = go (p x) refl (λ q. filter-member p xs r q) t
     go₂ e ih (inl c) = (or-first (eqb r x) (member r xs) c, rw (eqb→eq r x c, e) tt)
     go₂ e ih (inr c) = (or-second (eqb r x) (member r xs) (ih c .0), ih c .1)
 
-    go : (b : Bool) → p x ≡ b → (T (member r (filter p xs)) → T (member r xs) × T (p r)) → T (member r (cond b (x ∷ filter p xs) (filter p xs))) → T (eqb r x || member r xs) × T (p r)
+    go : (b : Bool) → p x ≡ b → (T (member r (filter p xs)) → T (member r xs) × T (p r)) → T (member r (cond b (x ∷ filter p xs) (filter p xs)))
+        → T (eqb r x || member r xs) × T (p r)
     go true e ih q = go₂ e ih (or-pass (eqb r x) (member r (filter p xs)) q)
     go false e ih q = (or-second (eqb r x) (member r xs) (ih q .0), ih q .1)
 
@@ -76,7 +78,8 @@ pub first-finds : (p : ℕ → Bool) (xs : List ℕ) (r : ℕ) → T (member r x
 first-finds p [] r t u = absurd t
 first-finds p (x ∷ xs) r t u = go (p x) refl (or-pass (eqb r x) (member r xs) t) (λ v. first-finds p xs r v u)
   where
-    go : (b : Bool) → p x ≡ b → T (eqb r x) ⊎ T (member r xs) → (T (member r xs) → (m : ℕ) × (firstOf p xs ≡ suc m)) → (m : ℕ) × (cond b (suc x) (firstOf p xs) ≡ suc m)
+    go : (b : Bool) → p x ≡ b → T (eqb r x) ⊎ T (member r xs) → (T (member r xs) → (m : ℕ) × (firstOf p xs ≡ suc m))
+        → (m : ℕ) × (cond b (suc x) (firstOf p xs) ≡ suc m)
     go true q c ih = (x, refl)
     go false q (inl v) ih = absurd (rw q at (rw (eqb→eq r x v) at u))
     go false q (inr v) ih = ih v
@@ -94,7 +97,8 @@ pub first-some : (p : ℕ → Bool) (xs : List ℕ) (r : ℕ) → firstOf p xs �
 first-some p [] r h = absurd (omega arith)
 first-some p (x ∷ xs) r h = go (p x) refl (λ q. first-some p xs r q) h
   where
-    go : (b : Bool) → p x ≡ b → (firstOf p xs ≡ suc r → T (member r xs) × (p r ≡ true)) → cond b (suc x) (firstOf p xs) ≡ suc r → T (eqb r x || member r xs) × (p r ≡ true)
+    go : (b : Bool) → p x ≡ b → (firstOf p xs ≡ suc r → T (member r xs) × (p r ≡ true)) → cond b (suc x) (firstOf p xs) ≡ suc r
+        → T (eqb r x || member r xs) × (p r ≡ true)
     go true e ih q = let xr : r ≡ x = suc-inj (sym q) in (rw xr (or-first (eqb x x) (member x xs) (eqb-refl x)), rw xr e)
     go false e ih q = (or-second (eqb r x) (member r xs) (ih q .0), ih q .1)
 

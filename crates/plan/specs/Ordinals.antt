@@ -113,7 +113,8 @@ last-some : (p : ℕ → Bool) (k : ℕ) (xs : List ℕ) → anyOf p xs ≡ true
 last-some p k [] h = let z : _≡_ {A = ℕ} 0 1 = cc in absurd (omega arith)
 last-some p k (x ∷ xs) h = go (p x) (anyOf p xs) h (last-some p (suc k) xs) (lastAt p (suc k) xs) refl
   where
-    go : (t u : Bool) → (t || u) ≡ true → (u ≡ true → (m : ℕ) × (lastAt p (suc k) xs ≡ suc m)) → (r : ℕ) → lastAt p (suc k) xs ≡ r → (m : ℕ) × (orElse r (cond t (suc k) 0) ≡ suc m)
+    go : (t u : Bool) → (t || u) ≡ true → (u ≡ true → (m : ℕ) × (lastAt p (suc k) xs ≡ suc m)) → (r : ℕ) → lastAt p (suc k) xs ≡ r
+        → (m : ℕ) × (orElse r (cond t (suc k) 0) ≡ suc m)
     go t u h ih (suc r) q = (r, refl)
     go true u h ih zero q = (k, refl)
     go false u h ih zero q = let s = ih h in absurd (omega (arith, s .1, q))
@@ -121,7 +122,9 @@ last-some p k (x ∷ xs) h = go (p x) (anyOf p xs) h (last-some p (suc k) xs) (l
 -- the later of two last ordinals is that of either test
 last-or : (p q : ℕ → Bool) (k : ℕ) (xs : List ℕ) → max (lastAt p k xs) (lastAt q k xs) ≡ lastAt (λ n. p n || q n) k xs
 last-or p q k [] = refl
-last-or p q k (x ∷ xs) = go (lastAt p (suc k) xs) (lastAt q (suc k) xs) (lastAt (λ n. p n || q n) (suc k) xs) (p x) (q x) (last-or p q (suc k) xs) (last-ge p (suc k) xs) (last-ge q (suc k) xs)
+last-or p q k (x ∷ xs) =
+    go (lastAt p (suc k) xs) (lastAt q (suc k) xs) (lastAt (λ n. p n || q n) (suc k) xs) (p x) (q x) (last-or p q (suc k) xs) (last-ge p (suc k) xs)
+    (last-ge q (suc k) xs)
   where
     go : (a c d : ℕ) (t u : Bool) → max a c ≡ d → ((m : ℕ) → a ≡ suc m → suc k ≤ m) → ((m : ℕ) → c ≡ suc m → suc k ≤ m)
         → max (orElse a (cond t (suc k) 0)) (orElse c (cond u (suc k) 0)) ≡ orElse d (cond (t || u) (suc k) 0)
@@ -179,7 +182,8 @@ set-each-at (a ∷ al) x t v h = set-each-at al x (set t a (suc x)) v (rw length
     go (no z) u = let e : eqb v a ≡ false = ne-eqb v a z in rw (e, getD-set-other t a v (suc x) 0 z)
 
 module _ (ns : List Node) where
-  read-is : (v k : ℕ) (comps t : List ℕ) → v < length t → getD (lastReads ns k comps t) v 0 ≡ orElse (lastAt (λ n. member v (operands (nodeAt ns n))) k comps) (getD t v 0)
+  read-is : (v k : ℕ) (comps t : List ℕ) → v < length t
+      → getD (lastReads ns k comps t) v 0 ≡ orElse (lastAt (λ n. member v (operands (nodeAt ns n))) k comps) (getD t v 0)
   read-is v k [] t h = refl
   read-is v k (n ∷ comps) t h =
       let p : ℕ → Bool = λ n. member v (operands (nodeAt ns n)) in
@@ -259,7 +263,8 @@ comes-here p done n rest = rw (last-append p 0 done (n ∷ rest)) (go (anyOf p r
     z : 0 + length done ≡ length done
     z = omega arith
 
-    go : (u : Bool) → anyOf p rest ≡ u → (t : Bool) → eqb (orElse (orElse (lastAt p (suc (0 + length done)) rest) (cond t (suc (0 + length done)) 0)) (lastAt p 0 done)) (suc (length done)) ≡ (t && not u)
+    go : (u : Bool) → anyOf p rest ≡ u → (t : Bool)
+        → eqb (orElse (orElse (lastAt p (suc (0 + length done)) rest) (cond t (suc (0 + length done)) 0)) (lastAt p 0 done)) (suc (length done)) ≡ (t && not u)
     go true q t =
         let s = last-some p (suc (0 + length done)) rest q in
         let g = last-ge p (suc (0 + length done)) rest (s .0) (s .1) in
@@ -269,7 +274,9 @@ comes-here p done n rest = rw (last-append p 0 done (n ∷ rest)) (go (anyOf p r
         off true = refl
         off false = refl
     go false q true = rw (last-none p (suc (0 + length done)) rest q, z) (is-true (eqb (suc (length done)) (suc (length done))) (eqb-refl (suc (length done))))
-    go false q false = rw (last-none p (suc (0 + length done)) rest q) (ne-eqb (lastAt p 0 done) (suc (length done)) (λ (y : lastAt p 0 done ≡ suc (length done)). omega (arith, last-le p 0 done)))
+    go false q false =
+        rw (last-none p (suc (0 + length done)) rest q)
+        (ne-eqb (lastAt p 0 done) (suc (length done)) (λ (y : lastAt p 0 done ≡ suc (length done)). omega (arith, last-le p 0 done)))
 
 comes-first : (p : ℕ → Bool) (comps : List ℕ) → eqb (lastAt p 0 comps) 0 ≡ not (anyOf p comps)
 comes-first p comps = go (anyOf p comps) refl

@@ -52,7 +52,8 @@ number-length k (false ∷ fs) = ap suc (number-length k fs)
 pub sample-at : (ks : List ℕ) (ns : List Node) (n : ℕ) → n < length ns → originAt (sampleOrigins ks ns) n ≡ sampleOrigin (getD ks n 0) (nodeAt ns n)
 sample-at ks [] n h = absurd (omega arith)
 sample-at ks (x ∷ xs) zero h = refl
-sample-at ks (x ∷ xs) (suc n) h = sample-at (drop 1 ks) xs n (omega arith) ∙ ap (λ (k : ℕ). sampleOrigin k (nodeAt xs n)) (getD-drop 1 ks n 0 ∙ ap (λ (i : ℕ). getD ks i 0) (omega arith))
+sample-at ks (x ∷ xs) (suc n) h =
+    sample-at (drop 1 ks) xs n (omega arith) ∙ ap (λ (k : ℕ). sampleOrigin k (nodeAt xs n)) (getD-drop 1 ks n 0 ∙ ap (λ (i : ℕ). getD ks i 0) (omega arith))
 
 pub sample-length : (ks : List ℕ) (ns : List Node) → length (sampleOrigins ks ns) ≡ length ns
 sample-length ks [] = refl
@@ -138,7 +139,8 @@ unfolding homeOf
 home-origin ss c i n h = is-load c i (originAt ss n) (rw (first-some (λ n. isLoad c i (originAt ss n)) (countUp 0 (length ss)) n h .1) tt)
 
 -- the shared node of a source, or the node itself
-pub canonical-origin : (ss : List Origin) (n : ℕ) → n < length ss → T (hasOrigin (originAt ss n)) → (canonical ss n < length ss) × T (hasOrigin (originAt ss (canonical ss n)))
+pub canonical-origin : (ss : List Origin) (n : ℕ) → n < length ss → T (hasOrigin (originAt ss n))
+    → (canonical ss n < length ss) × T (hasOrigin (originAt ss (canonical ss n)))
 unfolding canonical canonicalAs
 canonical-origin ss n h t = go (originAt ss n) refl
   where

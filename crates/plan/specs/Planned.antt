@@ -62,11 +62,15 @@ module _ (b : Flow) (v : GoodFlow b) where
 
   need-length : length need ≡ length ns
   unfolding neededBy
-  need-length = length-sweep ns _ (length ns) (markAll (roots b) (replicate (length ns) false)) ∙ (length-markAll (roots b) (replicate (length ns) false) ∙ length-replicate (length ns) false)
+  need-length =
+      length-sweep ns _ (length ns) (markAll (roots b) (replicate (length ns) false))
+      ∙ (length-markAll (roots b) (replicate (length ns) false) ∙ length-replicate (length ns) false)
 
   pub need-root : (n : ℕ) → T (member n (roots b)) → n < length ns → T (getD need n false)
   unfolding neededBy
-  need-root n t h = sweep-mono ns (λ n. not (hoistable ns inv n)) (length ns) (markAll (roots b) (replicate (length ns) false)) n (mark-in (roots b) (replicate (length ns) false) n t (rw length-replicate h))
+  need-root n t h =
+      sweep-mono ns (λ n. not (hoistable ns inv n)) (length ns) (markAll (roots b) (replicate (length ns) false)) n
+      (mark-in (roots b) (replicate (length ns) false) n t (rw length-replicate h))
 
   pub need-closed : (n a : ℕ) → n < length ns → T (getD need n false) → T (not (hoistable ns inv n)) → T (member a (operands (nodeAt ns n))) → T (getD need a false)
   unfolding neededBy
@@ -76,7 +80,8 @@ module _ (b : Flow) (v : GoodFlow b) where
 
   pub homes-at : (n : ℕ) → n < length ns → getD homes n false ≡ (getD need n false && hoistable ns inv n)
   unfolding homesOf
-  homes-at n h = let z : 0 + n ≡ n = omega arith in flags-at (λ n. getD need n false && hoistable ns inv n) 0 (length ns) n h ∙ ap (λ (k : ℕ). getD need k false && hoistable ns inv k) z
+  homes-at n h =
+      let z : 0 + n ≡ n = omega arith in flags-at (λ n. getD need n false && hoistable ns inv n) 0 (length ns) n h ∙ ap (λ (k : ℕ). getD need k false && hoistable ns inv k) z
 
   pub homes-length : length homes ≡ length ns
   unfolding homesOf
@@ -115,7 +120,8 @@ module _ (b : Flow) (v : GoodFlow b) where
       go true q = inl (rw q tt)
       go false q = inr (no-origin (originAt ss a) q, in-comps a h t (rw q tt))
 
-  pub write-values : (c k : ℕ) (us : List ℕ) → ((n : ℕ) → T (member n (updatesOf us)) → (n < length ns) × T (getD need n false)) → AllWrites (λ w. (w .value < length ss) × (T (hasOrigin (originAt ss (w .value))) ⊎ ((originAt ss (w .value) ≡ noOrigin) × T (member (w .value) comps)))) (writesFrom c k us)
+  pub write-values : (c k : ℕ) (us : List ℕ) → ((n : ℕ) → T (member n (updatesOf us)) → (n < length ns) × T (getD need n false))
+      → AllWrites (λ w. (w .value < length ss) × (T (hasOrigin (originAt ss (w .value))) ⊎ ((originAt ss (w .value) ≡ noOrigin) × T (member (w .value) comps)))) (writesFrom c k us)
   write-values c k [] h = tt
   write-values c k (zero ∷ us) h = write-values c (suc k) us h
   write-values c k (suc n ∷ us) h =
@@ -132,11 +138,13 @@ module _ (b : Flow) (v : GoodFlow b) where
 
   pub root-state : (n : ℕ) → T (member n (updatesOf (b .states))) → T (member n (roots b))
   unfolding roots
-  root-state n t = or-second (eqb n (b .output)) (member n (updatesOf (b .states) ++ updatesOf (b .delays))) (member-left (updatesOf (b .states)) (updatesOf (b .delays)) n t)
+  root-state n t =
+      or-second (eqb n (b .output)) (member n (updatesOf (b .states) ++ updatesOf (b .delays))) (member-left (updatesOf (b .states)) (updatesOf (b .delays)) n t)
 
   pub root-delay : (n : ℕ) → T (member n (updatesOf (b .delays))) → T (member n (roots b))
   unfolding roots
-  root-delay n t = or-second (eqb n (b .output)) (member n (updatesOf (b .states) ++ updatesOf (b .delays))) (member-right (updatesOf (b .states)) (updatesOf (b .delays)) n t)
+  root-delay n t =
+      or-second (eqb n (b .output)) (member n (updatesOf (b .states) ++ updatesOf (b .delays))) (member-right (updatesOf (b .states)) (updatesOf (b .delays)) n t)
 
   pub sample-ascending : Ascending 0 comps
   unfolding sampleComputations
@@ -175,9 +183,11 @@ module _ (b : Flow) (v : GoodFlow b) where
   unfolding controlComputations
   control-ascending = ascending-filter (λ n. getD cneed n false && isComputed (nodeAt ns n)) 0 0 (length ns) (omega arith)
 
-  pub cvalue : (a : ℕ) → a < length ns → T (getD cneed a false) → (a < length cs) × (T (hasOrigin (originAt cs a)) ⊎ ((originAt cs a ≡ noOrigin) × T (member a ccomps)))
+  pub cvalue : (a : ℕ) → a < length ns → T (getD cneed a false)
+      → (a < length cs) × (T (hasOrigin (originAt cs a)) ⊎ ((originAt cs a ≡ noOrigin) × T (member a ccomps)))
   cvalue a h t = let r = inv-leaf ns a h (cneed-inv a t .1) in (rw length-map h, go (control-leaf (nodeAt ns a) (r .0) (r .1)))
     where
-      go : T (isComputed (nodeAt ns a)) ⊎ T (hasOrigin (controlOrigin (nodeAt ns a))) → T (hasOrigin (originAt cs a)) ⊎ ((originAt cs a ≡ noOrigin) × T (member a ccomps))
+      go : T (isComputed (nodeAt ns a)) ⊎ T (hasOrigin (controlOrigin (nodeAt ns a)))
+          → T (hasOrigin (originAt cs a)) ⊎ ((originAt cs a ≡ noOrigin) × T (member a ccomps))
       go (inl u) = inr (control-at ns a h ∙ control-computed (nodeAt ns a) u, in-ccomps a h t u)
       go (inr u) = inl (rw (control-at ns a h) u)

@@ -104,7 +104,8 @@ module _ (ns : List Node) (down : ℕ → Bool) where
         go (inr u) = u
 
     -- a marked node below k through which the walk goes has its operands marked
-    pub sweep-closed : (k : ℕ) (m : List Bool) → k ≤ length m → (n a : ℕ) → n < k → T (getD (sweep ns down k m) n false) → T (down n) → T (member a (operands (nodeAt ns n)))
+    pub sweep-closed : (k : ℕ) (m : List Bool) → k ≤ length m → (n a : ℕ) → n < k → T (getD (sweep ns down k m) n false) → T (down n)
+        → T (member a (operands (nodeAt ns n)))
         → T (getD (sweep ns down k m) a false)
     unfolding sweep
     sweep-closed zero m l n a h t d u = absurd (omega arith)
@@ -192,7 +193,8 @@ inv-node (unaryNode k x) gl t a u = go (or-pass (eqb a x) false u)
     go (inr w) = absurd w
 
 -- operands of a hoistable node are hoistable
-pub inv-closed : (ns : List Node) → Ordered ns → (n a : ℕ) → n < length ns → T (getD (invariants ns []) n false) → T (member a (operands (nodeAt ns n))) → T (getD (invariants ns []) a false)
+pub inv-closed : (ns : List Node) → Ordered ns → (n a : ℕ) → n < length ns → T (getD (invariants ns []) n false) → T (member a (operands (nodeAt ns n)))
+    → T (getD (invariants ns []) a false)
 inv-closed ns ord n a h t u =
     let r = inv-at ns [] n h in
     let z : 0 + n ≡ n = omega arith in

@@ -65,10 +65,12 @@ module _ (g : Flow) (v : GoodFlow g) where
   pub control-needed : cneed g v ≡ reachable (g .nodes) controlRoots (λ n. true)
   control-needed = sym (reachable-same (g .nodes) (λ n. true) (v .ord) controlRoots roots-in ∙ ap (sweep (g .nodes) (λ n. true) (length (g .nodes))) marked)
 
-  values-in : (c k : ℕ) (us : List ℕ) → ((n : ℕ) → T (member n (updatesOf us)) → n < length (g .nodes)) → AllWrites (λ w. w .value < length (g .nodes)) (writesFrom c k us)
+  values-in : (c k : ℕ) (us : List ℕ) → ((n : ℕ) → T (member n (updatesOf us)) → n < length (g .nodes))
+      → AllWrites (λ w. w .value < length (g .nodes)) (writesFrom c k us)
   values-in c k [] h = tt
   values-in c k (zero ∷ us) h = values-in c (suc k) us h
-  values-in c k (suc n ∷ us) h = (h n (or-first (eqb n n) (member n (updatesOf us)) (eqb-refl n)), values-in c (suc k) us (λ m t. h m (or-second (eqb m n) (member m (updatesOf us)) t)))
+  values-in c k (suc n ∷ us) h =
+      (h n (or-first (eqb n n) (member n (updatesOf us)) (eqb-refl n)), values-in c (suc k) us (λ m t. h m (or-second (eqb m n) (member m (updatesOf us)) t)))
 
   all-inside : AllWrites (λ w. w .value < length (g .nodes)) (writes g)
   unfolding writes

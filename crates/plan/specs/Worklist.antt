@@ -128,7 +128,8 @@ module _ (ns : List Node) (down : ℕ → Bool) (ord : Ordered ns) where
       pend m (inl u) = child (down x) refl m (back-out (next x) m u)
       pend m (inr u) = pr m u
 
-      go : (b : Bool) → (T (getD (turns ns down f seen pending) n false) → P n) → (T (getD (turns ns down f (set seen x true) (backwards (next x) ++ pending)) n false) → P n)
+      go : (b : Bool) → (T (getD (turns ns down f seen pending) n false) → P n)
+          → (T (getD (turns ns down f (set seen x true) (backwards (next x) ++ pending)) n false) → P n)
           → T (getD (cond b (turns ns down f seen pending) (turns ns down f (set seen x true) (backwards (next x) ++ pending))) n false) → P n
       go true ih jh t = ih t
       go false ih jh t = jh t
@@ -204,7 +205,8 @@ module _ (ns : List Node) (down : ℕ → Bool) (ord : Ordered ns) where
           mine true q t a u = u
           mine false q t a u = absurd t
 
-          was : (n a : ℕ) → (n ≡ x) ⊎ T (getD seen n false) → T (down n) → T (member a (operands (nodeAt ns n))) → T (getD (set seen x true) a false) ⊎ T (member a (backwards (next x) ++ pending))
+          was : (n a : ℕ) → (n ≡ x) ⊎ T (getD seen n false) → T (down n) → T (member a (operands (nodeAt ns n)))
+              → T (getD (set seen x true) a false) ⊎ T (member a (backwards (next x) ++ pending))
           was n a (inl z) d w = inr (member-left (backwards (next x)) pending a (back-in (next x) a (mine (down x) refl (rw z at d) a (rw z at w))))
           was n a (inr t) d w = old a (r .closed n a t d w)
 
@@ -245,7 +247,8 @@ module _ (ns : List Node) (down : ℕ → Bool) (ord : Ordered ns) where
           tk l n (inl u) = l .keeps n (rw (eqb→eq n x u) (set-hits seen x ls))
           tk l n (inr u) = l .takes n (member-right (backwards (next x)) pending n u)
 
-  pub same-list : (xs ys : List Bool) → length xs ≡ length ys → ((n : ℕ) → T (getD xs n false) → T (getD ys n false)) → ((n : ℕ) → T (getD ys n false) → T (getD xs n false)) → xs ≡ ys
+  pub same-list : (xs ys : List Bool) → length xs ≡ length ys → ((n : ℕ) → T (getD xs n false) → T (getD ys n false))
+      → ((n : ℕ) → T (getD ys n false) → T (getD xs n false)) → xs ≡ ys
   same-list [] [] l f g = refl
   same-list [] (y ∷ ys) l f g = absurd (omega arith)
   same-list (x ∷ xs) [] l f g = absurd (omega arith)
@@ -258,7 +261,8 @@ module _ (ns : List Node) (down : ℕ → Bool) (ord : Ordered ns) where
       eq false false f g = refl
 
   -- `reachable` marks what the sweep marks
-  pub reachable-same : (rs : List ℕ) → ((n : ℕ) → T (member n rs) → n < length ns) → reachable ns rs down ≡ sweep ns down (length ns) (markAll rs (replicate (length ns) false))
+  pub reachable-same : (rs : List ℕ) → ((n : ℕ) → T (member n rs) → n < length ns)
+      → reachable ns rs down ≡ sweep ns down (length ns) (markAll rs (replicate (length ns) false))
   reachable-same rs inside =
       same-list R S (loops .len ∙ sym (length-sweep ns down (length ns) m₀ ∙ len₀))
       (λ n t. marks-only (λ n. T (getD S n false)) closed (2 * length ns + length rs) (replicate (length ns) false) (backwards rs)
@@ -287,7 +291,8 @@ module _ (ns : List Node) (down : ℕ → Bool) (ord : Ordered ns) where
           })
 
       closed : (n a : ℕ) → T (down n) → T (member a (operands (nodeAt ns n))) → T (getD S n false) → T (getD S a false)
-      closed n a d u t = sweep-closed ns down ord (length ns) m₀ (omega (arith, len₀)) n a (omega (arith, flag-inside S n t, length-sweep ns down (length ns) m₀, len₀)) t d u
+      closed n a d u t =
+          sweep-closed ns down ord (length ns) m₀ (omega (arith, len₀)) n a (omega (arith, flag-inside S n t, length-sweep ns down (length ns) m₀, len₀)) t d u
 
       from : (n : ℕ) → T (member n rs) ⊎ T (getD (replicate (length ns) false) n false) → T (getD R n false)
       from n (inl u) = loops .takes n (back-in rs n u)
