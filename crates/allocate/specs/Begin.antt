@@ -5,11 +5,11 @@ use mathlib.Core.List.{List, [], map}
 use Prim.Native.Nat.{suc, ℕ}
 use native.Mathlib.Omega.{arith}
 use lib.ListN.{List·getD-map, getD, length, length-map, length-replicate, replicate}
+use Rattle.tables.specs.Zeros.{zeros-at}
 use Rattle.plan.specs.Origins.{Origin, noOrigin, hasOrigin, originAt}
 use Rattle.plan.specs.Lists.{isSome}
 use Rattle.plan.specs.TestLaws.{or-second}
 use Rattle.plan.specs.Planned.{slots}
-use Rattle.plan.specs.ListLaws.{zeros-at}
 use Rattle.allocate.specs.State.{Setting, begin}
 use Rattle.allocate.specs.StateLaws.{Good}
 use Rattle.allocate.specs.TaskLaws.{Invariant}

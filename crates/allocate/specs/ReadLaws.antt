@@ -1,5 +1,5 @@
 -- An operation's reads are fetched, what dies is released, the result has a register. Assumes nothing.
-use mathlib.Core.Path.{_∙_, _≡_, refl, sym}
+use mathlib.Core.Path.{_∙_, _≡_, refl}
 use mathlib.Core.Logic.{_≢_, _⊎_, inl, inr}
 use mathlib.Core.Bool.{Bool, _||_, false, not, true}
 use mathlib.Core.List.{List, [], _++_, _∷_, append-nil}
@@ -9,6 +9,7 @@ use native.Mathlib.Decide.{ℕ-discrete}
 use lib.ListN.{getD, length, length-set, set}
 use lib.Seq.{append-snoc, getD-set-other, getD-set-same, set-set}
 use lib.Dec.{T, eqb, eqb-refl, eqb→eq}
+use borrow.Author.Tests.{not-true}
 use Rattle.tables.specs.Tests.{or-pass}
 use Rattle.plan.specs.Lists.{member, firstOf, isSome}
 use Rattle.plan.specs.TestLaws.{or-first, or-second}
@@ -204,10 +205,6 @@ module _ (e : Setting) (home : List ℕ) (wf : Sixteen e) (rest : List (List ℕ
       older m q (inl z) = inl z
       older m q (inr z) = inr (unset (s .holder) d m q z)
 
-  not-false : (b : Bool) → not b ≡ true → b ≡ false
-  not-false true h = sym h
-  not-false false h = refl
-
   pub target-aimed : (n : ℕ) (reads : List ℕ) (g : TakenAll) → Good e home (g .state) → Holds (g .state) reads (g .registers) → registerOf (g .state) n ≡ 0
       → n < length (e .origins)
       → Post (Unit {0}) (Aimed e home rest n (g .state)) (resultRegister e rest n (g .registers) (g .state) (firstOf (λ d. not (readLater rest d)) reads))
@@ -224,4 +221,4 @@ module _ (e : Setting) (home : List ℕ) (wf : Sixteen e) (rest : List (List ℕ
           let p : T (member d reads) × (not (readLater rest d) ≡ true) = first-some (λ d. not (readLater rest d)) reads d q in
           let h : (r : ℕ) × (registerOf (g .state) d ≡ suc r) = holds-at (g .state) reads (g .registers) d hs (p .0) in
           let hd : registerOf (g .state) d ≡ suc (pred (registerOf (g .state) d)) = suc-is (registerOf (g .state) d) (rw (h .1) tt) in
-          lends (pred (registerOf (g .state) d)) d n (g .state) gd hd hn ln (not-false (readLater rest d) (p .1))
+          lends (pred (registerOf (g .state) d)) d n (g .state) gd hd hn ln (not-true (readLater rest d) (p .1))

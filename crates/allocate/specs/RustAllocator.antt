@@ -7,15 +7,15 @@ use Prim.Native.Nat.{pred, suc, zero, ℕ}
 use native.Mathlib.Omega.{arith}
 use native.Mathlib.Nat.{suc-inj}
 use lib.ListN.{getD, length, set}
-use lib.Dec.{T, eqb, eqb-refl, eqb→eq}
+use lib.Dec.{T, eqb, eqb-refl}
 use Rattle.tables.specs.Stores.{set-says}
-use Rattle.tables.specs.Tests.{or-pass}
+use Rattle.tables.specs.Zeros.{zeros-at}
 use Rattle.plan.specs.Lists.{member, filter, firstOf, better, best, countUp, isNone}
 use Rattle.plan.specs.Nodes.{nodeAt}
 use Rattle.plan.specs.Origins.{Origin, noOrigin, immediate, loaded, hasOrigin, isLoad, originAt, homeOf}
 use Rattle.plan.specs.Schedule.{Task, computeTask, keepTask, storeTask, taskReads}
 use Rattle.plan.specs.TestLaws.{or-first, or-second}
-use Rattle.plan.specs.ListLaws.{filter-member, best-member, zeros-at}
+use Rattle.plan.specs.ListLaws.{filter-member, best-member, first-zero}
 use Rattle.allocate.specs.Actions.{compute, Action, Operation, storeControl, storeAction, loadAction, loadImmediate}
 use Rattle.allocate.specs.State.{Allocated, allocated, allLocked, andThen, Setting, State, Taken, TakenAll, registerOf, ownerOf, slotOf, isFresh, reloadable, emit, emitOperation, fromSlot, spillIn, spillOut, place, vacate, disown, release, begin, lend, setSlot, stale}
 use Rattle.allocate.specs.Allocator.{readLater, spillIf, evict, evictKey, takeBest, takeFree, takeRegister, bringFrom, bringIf, bring, fetchHeld, fetch, fetchAll, releaseIf, releaseAll, resultRegister, lower, runCompute, runKeep, homeCode, preserveIf, preserve, runStore, runTask, allocateTask, readsOf, allocate}
@@ -84,15 +84,6 @@ mapTakenAll fr allLocked = allLocked
 abbrev mapState : List Bool → Allocated State → Allocated State
 mapState fr (allocated s) = allocated (withFresh fr s)
 mapState fr allLocked = allLocked
-
-first-none : (p : ℕ → Bool) (xs : List ℕ) → firstOf p xs ≡ 0 → (r : ℕ) → T (member r xs) → p r ≡ false
-first-none p [] h r t = absurd t
-first-none p (x ∷ xs) h r t = go (p x) refl h (or-pass (eqb r x) (member r xs) t) (λ q. first-none p xs q r)
-  where
-    go : (b : Bool) → p x ≡ b → cond b (suc x) (firstOf p xs) ≡ 0 → T (eqb r x) ⊎ T (member r xs) → (firstOf p xs ≡ 0 → T (member r xs) → p r ≡ false) → p r ≡ false
-    go true q h c ih = absurd (omega arith)
-    go false q h (inl u) ih = rw (eqb→eq r x u) q
-    go false q h (inr u) ih = ih h u
 
 best-ext : (f g : ℕ → ℕ) (xs : List ℕ) → ((r : ℕ) → T (member r xs) → f r ≡ g r) → best f xs ≡ best g xs
 best-ext f g [] h = refl
@@ -168,7 +159,7 @@ module _ (e : Setting) (fr : List Bool) where
 
       victim : firstOf (λ r. isNone (ownerOf s r)) (e .registers) ≡ 0 → (r : ℕ) → T (member r L) → ownerOf s r ≡ suc (pred (ownerOf s r))
       victim q r u =
-          some (ownerOf s r) (first-none (λ r. isNone (ownerOf s r)) (e .registers) q r (filter-member (λ r. not (member r locked)) (e .registers) r u .0))
+          some (ownerOf s r) (first-zero (λ r. isNone (ownerOf s r)) (e .registers) r q (filter-member (λ r. not (member r locked)) (e .registers) r u .0))
 
       key-same : firstOf (λ r. isNone (ownerOf s r)) (e .registers) ≡ 0 → (r : ℕ) → T (member r L) → evictKey rest (withFresh fr s) r ≡ evictKey rest s r
       key-same q r u = rw (reload-twin s t (pred (ownerOf s r)) (t .own r (pred (ownerOf s r)) (victim q r u)))

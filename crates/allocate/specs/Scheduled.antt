@@ -1,13 +1,14 @@
 -- The plan gives the allocator what it asks for. Assumes nothing.
-use mathlib.Core.Path.{_≡_, refl, sym, _∙_}
+use mathlib.Core.Path.{_≡_, refl, _∙_}
 use mathlib.Core.Logic.{_⊎_, inl, inr}
-use mathlib.Core.Bool.{Bool, _&&_, false, false≢true, not, true}
+use mathlib.Core.Bool.{Bool, _&&_, false, not, true}
 use mathlib.Core.List.{List, [], _++_, _∷_, append-assoc}
 use Prim.Native.Nat.{_<_, suc, zero, ℕ}
 use native.Mathlib.Omega.{arith}
 use lib.ListN.{getD, length, length-map}
 use lib.Dec.{T, eqb, eqb-refl, eqb→eq}
-use Rattle.tables.specs.Tests.{or-pass}
+use borrow.Author.Tests.{not-true}
+use Rattle.tables.specs.Tests.{or-pass, both}
 use Rattle.plan.specs.Nodes.{Flow, Node, operands, nodeAt}
 use Rattle.plan.specs.Origins.{controlOrigin, Origin, noOrigin, hasOrigin, originAt, canonical}
 use Rattle.plan.specs.Schedule.{writesFrom, writes, Task, computeTask, keepTask, storeTask, taskReads, Write, waits, tasksOf, scheduleFrom, schedule, controlTask, controlTasks}
@@ -146,14 +147,6 @@ module _ (ns : List Node) (ss : List Origin) (registers home : List ℕ) (inCont
       unfolding waits
       waits-value w rest h t = any-no (waits ns ss w) rest (w .value) h t (or-first (eqb (w .value) (w .value)) _ (eqb-refl (w .value)))
 
-      not-is : (b : Bool) → not b ≡ true → b ≡ false
-      not-is true h = sym h
-      not-is false h = refl
-
-      and-is : (a b : Bool) → (a && b) ≡ true → b ≡ true
-      and-is true b h = h
-      and-is false b h = absurd (false≢true h)
-
       pub schedule-from-ok : (ws : List Write) (os : List Task) → AllWrites (λ w. Value (w .value)) ws
           → ((done : List ℕ) (k last : ℕ) → Parts done [] k → TasksOk settingOf home done last os)
           → (rest done : List ℕ) (k last : ℕ) → Parts done rest k → TasksOk settingOf home done last (scheduleFrom ns ss ws rest ++ os)
@@ -169,7 +162,7 @@ module _ (ns : List Node) (ss : List Origin) (registers home : List ℕ) (inCont
             rw (append-assoc (tasksOf ws′) (scheduleFrom ns ss ws rest) os)
                 (writes-ok (n ∷ done) ws′ (scheduleFrom ns ss ws rest ++ os)
                 (all-filter (λ w. Value (w .value)) (λ w. Usable (n ∷ done) (w .value)) (λ w. waits ns ss w n && not (anyOf (waits ns ss w) rest)) ws a
-                (λ w vw z. value-usable (n ∷ done) rest (suc n) (w .value) q vw (waits-value w rest (not-is (anyOf (waits ns ss w) rest) (and-is (waits ns ss w n) (not (anyOf (waits ns ss w) rest)) z)))))
+                (λ w vw z. value-usable (n ∷ done) rest (suc n) (w .value) q vw (waits-value w rest (not-true (anyOf (waits ns ss w) rest) (both (waits ns ss w n) (not (anyOf (waits ns ss w) rest)) z .1)))))
                 (λ last. schedule-from-ok ws os a fin rest (n ∷ done) (suc n) last q)
                 (suc n)),
           )
@@ -182,7 +175,7 @@ module _ (ns : List Node) (ss : List Origin) (registers home : List ℕ) (inCont
           let ws′ : List Write = filter (λ w. not (anyOf (waits ns ss w) comps)) ws in
           writes-ok [] ws′ (scheduleFrom ns ss ws comps ++ (storeTask 12 0 out ∷ []))
           (all-filter (λ w. Value (w .value)) (λ w. Usable [] (w .value)) (λ w. not (anyOf (waits ns ss w) comps)) ws a
-          (λ w vw z. value-usable [] comps 0 (w .value) p0 vw (waits-value w comps (not-is (anyOf (waits ns ss w) comps) z))))
+          (λ w vw z. value-usable [] comps 0 (w .value) p0 vw (waits-value w comps (not-true (anyOf (waits ns ss w) comps) z))))
           (λ last. schedule-from-ok ws (storeTask 12 0 out ∷ []) a (λ done k last p. (reads-write done 12 0 out (value-usable done [] k out p vo (λ t. t)), tt)) comps [] 0 last p0)
           0
 

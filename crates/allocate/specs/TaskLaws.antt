@@ -14,7 +14,7 @@ use Rattle.tables.specs.Tests.{or-pass}
 use Rattle.plan.specs.Origins.{hasOrigin, originAt, homeOf}
 use Rattle.plan.specs.Nodes.{nodeAt}
 use Rattle.plan.specs.Lists.{member, firstOf, isSome}
-use Rattle.plan.specs.TestLaws.{or-first, or-second}
+use Rattle.plan.specs.TestLaws.{and-both, or-first, or-second}
 use Rattle.allocate.specs.State.{Setting, State, Taken, TakenAll, registerOf, slotOf, isFresh, reloadable, emit, emitOperation, setSlot, stale}
 use Rattle.allocate.specs.Allocator.{fetch, releaseAll, readLater, resultRegister, lower, runCompute, runKeep, homeCode, preserveIf, preserve, runStore}
 use Rattle.allocate.specs.Actions.{Action, Operation, storeControl, storeAction}
@@ -184,10 +184,6 @@ pub record Saved (e : Setting) (home : List ℕ) (rest : List (List ℕ)) (locke
   pub fresh : s′ .fresh ≡ s .fresh
   pub safe : (n : ℕ) → h ≡ suc n → T (readLater rest n) → T (isFresh s n) → T (isSome (registerOf s′ n))
 
-and-intro : (a b : Bool) → T a → T b → T (a && b)
-and-intro true b t u = u
-and-intro false b t u = absurd t
-
 -- a value that is fresh no more is lost only if it was nowhere else
 stale-keep : (fr : List Bool) (n : ℕ) → (h : Bool) (sl : Bool) (m : ℕ) → (m ≡ n → T (getD fr n false) → T h) → T (h || (sl || getD fr m false))
     → T (h || (sl || getD (set fr n false) m false))
@@ -217,7 +213,7 @@ module _ (e : Setting) (home : List ℕ) (wf : Sixteen e) (rest : List (List ℕ
             only = λ m q h. inr h;
             grow = omega arith;
             fresh = refl;
-            safe = λ m z t u. absurd (rw q at (and-intro (isFresh s n) (readLater rest n) (rw (suc-inj z) u) (rw (suc-inj z) t)));
+            safe = λ m z t u. absurd (rw q at (and-both (isFresh s n) (readLater rest n) (rw (suc-inj z) u) (rw (suc-inj z) t)));
           }
       go true q =
           post-bind (Unit {0}) (Fetched e home n locked s) (Saved e home rest locked (suc n) s) (fetch e rest n locked s) _ (fetch-fetched e home wf rest n locked s g (ln n refl)) (λ t k.

@@ -1,5 +1,5 @@
 -- The expanded block as codegen.rs sees it, from the words of its expansion; and what the flow of a good graph keeps.
-use mathlib.Core.Path.{_≡_, refl, sym, ap, _∙_}
+use mathlib.Core.Path.{_≡_, sym, ap, _∙_}
 use mathlib.Core.Logic.{_⊎_, inl, inr}
 use mathlib.Core.Bool.{Bool, true, false, cond}
 use mathlib.Core.List.{List, [], _∷_, map}
@@ -19,7 +19,7 @@ use Rattle.expand.specs.Good.{GoodAs, GoodNode}
 use Rattle.expand.specs.GraphLaws.{GoodGraph}
 use Rattle.plan.specs.Lists.{member, countUp}
 use Rattle.plan.specs.Nodes.{Node, inputNode, networkNode, constantNode, parameterNode, stateNode, delayNode, binaryNode, unaryNode, operands, nodeAt, Flow, updatesOf}
-use Rattle.plan.specs.ListLaws.{count-up-length}
+use Rattle.plan.specs.ListLaws.{map-at, map-off, count-up-length}
 use Rattle.plan.specs.Reached.{Ordered}
 use Rattle.plan.specs.Planned.{GoodFlow}
 
@@ -58,16 +58,6 @@ flowOf g =
     }
 
 -- ---- its nodes
-
-map-at : {A : Type 0} (f : ℕ → A) (k n i : ℕ) (d : A) → i < n → getD (map f (countUp k n)) i d ≡ f (k + i)
-map-at f k zero i d h = absurd (omega arith)
-map-at f k (suc n) zero d h = let z : k + 0 ≡ k = omega arith in rw z
-map-at f k (suc n) (suc i) d h = let z : suc k + i ≡ k + suc i = omega arith in rw z at (map-at f (suc k) n i d (omega arith))
-
-map-off : {A : Type 0} (f : ℕ → A) (k n i : ℕ) (d : A) → n ≤ i → getD (map f (countUp k n)) i d ≡ d
-map-off f k zero i d h = refl
-map-off f k (suc n) zero d h = absurd (omega arith)
-map-off f k (suc n) (suc i) d h = map-off f (suc k) n i d (omega arith)
 
 pub flow-length : (g : Graph) → length (flowOf g .nodes) ≡ g .count
 unfolding flowOf

@@ -183,20 +183,20 @@ flag-inside [] n t = absurd t
 flag-inside (x ∷ xs) zero t = omega arith
 flag-inside (x ∷ xs) (suc n) t = omega (arith, flag-inside xs n t)
 
-pub flags-at : (f : ℕ → Bool) (k n i : ℕ) → i < n → getD (map f (countUp k n)) i false ≡ f (k + i)
-flags-at f k zero i h = absurd (omega arith)
-flags-at f k (suc n) zero h = let z : k + 0 ≡ k = omega arith in rw z
-flags-at f k (suc n) (suc i) h = let z : suc k + i ≡ k + suc i = omega arith in rw z at (flags-at f (suc k) n i (omega arith))
+pub map-at : {A : Type 0} (f : ℕ → A) (k n i : ℕ) (d : A) → i < n → getD (map f (countUp k n)) i d ≡ f (k + i)
+map-at f k zero i d h = absurd (omega arith)
+map-at f k (suc n) zero d h = let z : k + 0 ≡ k = omega arith in rw z
+map-at f k (suc n) (suc i) d h = let z : suc k + i ≡ k + suc i = omega arith in rw z at (map-at f (suc k) n i d (omega arith))
+
+pub map-off : {A : Type 0} (f : ℕ → A) (k n i : ℕ) (d : A) → n ≤ i → getD (map f (countUp k n)) i d ≡ d
+map-off f k zero i d h = refl
+map-off f k (suc n) zero d h = absurd (omega arith)
+map-off f k (suc n) (suc i) d h = map-off f (suc k) n i d (omega arith)
 
 pub none-seen : (n i : ℕ) → getD (replicate n false) i false ≡ false
 none-seen zero i = refl
 none-seen (suc n) zero = refl
 none-seen (suc n) (suc i) = none-seen n i
-
-pub zeros-at : (n i : ℕ) → _≡_ {A = ℕ} (getD (replicate n 0) i 0) 0
-zeros-at zero i = refl
-zeros-at (suc n) zero = refl
-zeros-at (suc n) (suc i) = zeros-at n i
 
 -- ---- ascending lists
 

@@ -10,14 +10,15 @@ use lib.Seq.{append-snoc, getD-set-other, getD-set-same}
 use lib.Dec.{T, eqb, eqb-refl}
 use borrow.Author.Tests.{ne-eqb}
 use denote.Floats.{is-true}
+use Rattle.tables.specs.Zeros.{zeros-at}
 use Rattle.plan.specs.Lists.{member, filter, anyOf, countUp}
 use Rattle.plan.specs.Nodes.{Node, operands, nodeAt}
-use Rattle.plan.specs.Origins.{Origin, noOrigin, immediate, loaded, hasOrigin, isLoad, originAt}
+use Rattle.plan.specs.Origins.{Origin, isLoad, originAt}
 use Rattle.plan.specs.Schedule.{Task, computeTask, storeTask, Write, waits, tasksOf, scheduleFrom, schedule}
 use Rattle.plan.specs.TestLaws.{or-first, or-second, and-first, and-second, and-both, same-test}
-use Rattle.plan.specs.ListLaws.{zeros-at, count-up-member, count-up-below, any-at, any-is}
+use Rattle.plan.specs.ListLaws.{count-up-member, count-up-below, any-at, any-is}
 use Rattle.plan.specs.Planned.{AllWrites}
-use Rattle.plan.specs.OriginLaws.{origin-inside}
+use Rattle.plan.specs.OriginLaws.{load-origin, origin-inside}
 
 -- ---- the Rust's tables
 
@@ -199,11 +200,6 @@ or-zero (suc a) = refl
 last-false : (k : ℕ) (xs : List ℕ) → lastAt (λ n. false) k xs ≡ 0
 last-false k [] = refl
 last-false k (x ∷ xs) = rw (last-false (suc k) xs)
-
-pub load-origin : (c i : ℕ) (x : Origin) → T (isLoad c i x) → T (hasOrigin x)
-load-origin c i noOrigin t = absurd t
-load-origin c i (immediate b) t = tt
-load-origin c i (loaded d j) t = tt
 
 module _ (ns : List Node) (ss : List Origin) (len : length ss ≡ length ns) (comps : List ℕ) where
   abbrev reader : ℕ → ℕ → List ℕ → ℕ → Bool

@@ -117,10 +117,11 @@ origin-inside [] n t = absurd t
 origin-inside (x ∷ xs) zero t = omega arith
 origin-inside (x ∷ xs) (suc n) t = omega (arith, origin-inside xs n t)
 
-load-has-origin : (c i : ℕ) (x : Origin) → isLoad c i x ≡ true → T (hasOrigin x)
-load-has-origin c i noOrigin h = absurd (false≢true h)
-load-has-origin c i (immediate b) h = tt
-load-has-origin c i (loaded d j) h = tt
+-- a load is an origin
+pub load-origin : (c i : ℕ) (x : Origin) → T (isLoad c i x) → T (hasOrigin x)
+load-origin c i noOrigin t = absurd t
+load-origin c i (immediate b) t = tt
+load-origin c i (loaded d j) t = tt
 
 -- ---- the first node of a source
 
@@ -132,7 +133,7 @@ pub home-known : (ss : List Origin) (c i n : ℕ) → homeOf ss c i ≡ suc n �
 unfolding homeOf
 home-known ss c i n h =
     let p : T (member n (countUp 0 (length ss))) × (isLoad c i (originAt ss n) ≡ true) = first-some (λ n. isLoad c i (originAt ss n)) (countUp 0 (length ss)) n h in
-    (omega (arith, count-up-below 0 (length ss) n (p .0)), load-has-origin c i (originAt ss n) (p .1))
+    (omega (arith, count-up-below 0 (length ss) n (p .0)), load-origin c i (originAt ss n) (rw (p .1) tt))
 
 pub home-origin : (ss : List Origin) (c i n : ℕ) → homeOf ss c i ≡ suc n → originAt ss n ≡ loaded c i
 unfolding homeOf

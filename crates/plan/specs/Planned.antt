@@ -12,7 +12,7 @@ use Rattle.plan.specs.Origins.{Origin, noOrigin, hasOrigin, originAt, co
 use Rattle.plan.specs.Schedule.{Write, writesFrom, sampleComputations}
 use Rattle.plan.specs.Lists.{member, filter, countUp}
 use Rattle.plan.specs.Hoist.{number, hoistable, neededBy, homesOf, controlComputations, invariants, markAll, sweep}
-use Rattle.plan.specs.ListLaws.{Ascending, ascending-filter, filter-member, count-up-below, member-filter, count-up-member, count-up-length, flag-inside, flags-at, member-left, member-right}
+use Rattle.plan.specs.ListLaws.{Ascending, ascending-filter, filter-member, count-up-below, member-filter, count-up-member, count-up-length, flag-inside, map-at, member-left, member-right}
 use Rattle.plan.specs.TestLaws.{or-first, or-second, and-first, and-second, and-both, not-pass}
 use Rattle.plan.specs.Reached.{Ordered, mark-in, length-markAll, length-sweep, sweep-mono, sweep-all, sweep-closed, inv-closed, inv-leaf}
 use Rattle.plan.specs.OriginLaws.{number-some, sample-at, sample-length, sample-none, control-at, control-computed, control-leaf, no-origin}
@@ -81,7 +81,7 @@ module _ (b : Flow) (v : GoodFlow b) where
   pub homes-at : (n : ℕ) → n < length ns → getD homes n false ≡ (getD need n false && hoistable ns inv n)
   unfolding homesOf
   homes-at n h =
-      let z : 0 + n ≡ n = omega arith in flags-at (λ n. getD need n false && hoistable ns inv n) 0 (length ns) n h ∙ ap (λ (k : ℕ). getD need k false && hoistable ns inv k) z
+      let z : 0 + n ≡ n = omega arith in map-at (λ n. getD need n false && hoistable ns inv n) 0 (length ns) n false h ∙ ap (λ (k : ℕ). getD need k false && hoistable ns inv k) z
 
   pub homes-length : length homes ≡ length ns
   unfolding homesOf

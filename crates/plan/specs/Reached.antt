@@ -21,16 +21,17 @@ pub length-markAll : (l : List ℕ) (m : List Bool) → length (markAll l m) ≡
 length-markAll [] m = refl
 length-markAll (n ∷ ns) m = length-markAll ns (set m n true) ∙ length-set m n true
 
-set-true : (m : List Bool) (n j : ℕ) → T (getD m j false) → T (getD (set m n true) j false)
-set-true [] n j t = t
-set-true (x ∷ xs) zero zero t = tt
-set-true (x ∷ xs) zero (suc j) t = t
-set-true (x ∷ xs) (suc n) zero t = t
-set-true (x ∷ xs) (suc n) (suc j) t = set-true xs n j t
+-- a mark stays marked
+pub set-mark : (m : List Bool) (n j : ℕ) → T (getD m j false) → T (getD (set m n true) j false)
+set-mark [] n j t = t
+set-mark (x ∷ xs) zero zero t = tt
+set-mark (x ∷ xs) zero (suc j) t = t
+set-mark (x ∷ xs) (suc n) zero t = t
+set-mark (x ∷ xs) (suc n) (suc j) t = set-mark xs n j t
 
 pub mark-mono : (l : List ℕ) (m : List Bool) (j : ℕ) → T (getD m j false) → T (getD (markAll l m) j false)
 mark-mono [] m j t = t
-mark-mono (n ∷ ns) m j t = mark-mono ns (set m n true) j (set-true m n j t)
+mark-mono (n ∷ ns) m j t = mark-mono ns (set m n true) j (set-mark m n j t)
 
 pub mark-in : (l : List ℕ) (m : List Bool) (j : ℕ) → T (member j l) → j < length m → T (getD (markAll l m) j false)
 mark-in [] m j t h = absurd t

@@ -15,7 +15,7 @@ use Rattle.plan.specs.Nodes.{Node, operands, nodeAt}
 use Rattle.plan.specs.Hoist.{markAll, sweep}
 use Rattle.plan.specs.TestLaws.{or-first, or-second}
 use Rattle.plan.specs.ListLaws.{flag-inside, member-append, member-left, member-right, none-seen}
-use Rattle.plan.specs.Reached.{two-operands, Ordered, mark-in, mark-inv, length-markAll, length-sweep, sweep-mono, sweep-all, sweep-closed}
+use Rattle.plan.specs.Reached.{set-mark, two-operands, Ordered, mark-in, mark-inv, length-markAll, length-sweep, sweep-mono, sweep-all, sweep-closed}
 
 -- the other way round: a stack's top is its last element in the Rust, its first here
 abbrev pub backwards : List ℕ → List ℕ
@@ -84,13 +84,6 @@ set-true bs n l j t = go (ℕ-discrete j n)
     go : Dec (j ≡ n) → (j ≡ n) ⊎ T (getD bs j false)
     go (yes z) = inl z
     go (no z) = inr (rw (getD-set-other bs n j true false z) at t)
-
-set-keeps : (bs : List Bool) (n : ℕ) → n < length bs → (j : ℕ) → T (getD bs j false) → T (getD (set bs n true) j false)
-set-keeps bs n l j t = go (ℕ-discrete j n)
-  where
-    go : Dec (j ≡ n) → T (getD (set bs n true) j false)
-    go (yes z) = rw (z, getD-set-same bs n true false l) tt
-    go (no z) = rw (getD-set-other bs n j true false z) t
 
 set-hits : (bs : List Bool) (n : ℕ) → n < length bs → T (getD (set bs n true) n false)
 set-hits bs n l = rw (getD-set-same bs n true false l) tt
@@ -198,7 +191,7 @@ module _ (ns : List Node) (down : ℕ → Bool) (ord : Ordered ns) where
           old₂ a (inr u) = inr (member-right (backwards (next x)) pending a u)
 
           old : (a : ℕ) → T (getD seen a false) ⊎ T (member a (x ∷ pending)) → T (getD (set seen x true) a false) ⊎ T (member a (backwards (next x) ++ pending))
-          old a (inl u) = inl (set-keeps seen x ls a u)
+          old a (inl u) = inl (set-mark seen x a u)
           old a (inr u) = old₂ a (or-pass (eqb a x) (member a pending) u)
 
           mine : (d : Bool) → down x ≡ d → T d → (a : ℕ) → T (member a (operands (nodeAt ns x))) → T (member a (cond d (operands (nodeAt ns x)) []))
@@ -235,7 +228,7 @@ module _ (ns : List Node) (down : ℕ → Bool) (ord : Ordered ns) where
           let l = jh (omega (arith, h, s, e, back-length (next x), next-two x)) in
           record {
             closed = l .closed;
-            keeps = λ n u. l .keeps n (set-keeps seen x ls n u);
+            keeps = λ n u. l .keeps n (set-mark seen x n u);
             takes = λ n u. tk l n (or-pass (eqb n x) (member n pending) u);
             len = l .len;
           }
