@@ -29,6 +29,7 @@ binaryInstruction code dst lhs rhs =
 abbrev pub unaryInstruction : ℕ → ℕ → ℕ → Instruction
 unaryInstruction code dst src = cond (eqb code 12) (Neg dst src) (Abs dst src)
 
+-- the instruction of the kernel's table
 abbrev pub instructionOf : Operation → Instruction
 instructionOf (loadImmediate bits dst) = Immediate dst bits
 instructionOf (binary code dst lhs rhs) = binaryInstruction code dst lhs rhs

@@ -94,6 +94,7 @@ fetchAll setting rest (n ∷ reads) locked s =
 
 -- ---- what is not read again
 
+-- a value that is still to be read is kept
 abbrev pub releaseIf : Bool → Setting → ℕ → State → State
 releaseIf true setting n s = s
 releaseIf false setting n s = release setting n s

@@ -41,6 +41,7 @@ begin-good e home =
       held = omega arith;
     }
 
+-- .. and so is the whole invariant kept, with nothing computed yet
 pub begin-inv : (e : Setting) (home : List ℕ) (rest : List (List ℕ)) → Invariant e home [] rest (begin e)
 unfolding begin
 begin-inv e home rest =

@@ -15,6 +15,7 @@ use Rattle.allocate.specs.Allocator.{spillIf, evict, takeRegister, bring
 use Rattle.allocate.specs.Outcomes.{Post, post-bind}
 use Rattle.allocate.specs.StateLaws.{TakeView, was-free, evicted, none, take-view}
 
+-- no more are some than there are
 pub count-le : (xs : List ℕ) → count xs ≤ length xs
 count-le [] = omega arith
 count-le (zero ∷ xs) = omega (arith, count-le xs)
@@ -169,6 +170,7 @@ task-grew e rest reads (storeTask c i v) g =
     post-bind (Unit {0}) (λ s′. Grew (g .state) s′) _ (preserve e rest (g .registers) (g .state) h) _ (preserve-grew e rest (g .registers) (g .state) h) (λ t q.
     grew-trans (g .state) t _ q (grew-trans t (emit x t) _ (emit-grew x t) (grew-trans (emit x t) (stale h (emit x t)) _ (stale-grew h (emit x t)) (releaseAll-grew e rest reads (stale h (emit x t))))))
 
+-- a whole run
 pub run-grew : (e : Setting) (os : List Task) (s : State) → Post (Unit {0}) (λ s′. Grew s s′) (allocate e os s)
 unfolding allocate allocateTask
 run-grew e [] s = grew-refl s

@@ -21,6 +21,7 @@ use Rattle.allocate.specs.State.{Setting}
 abbrev pub Canonical : Setting → ℕ → Type 0
 Canonical e n = (c i : ℕ) → originAt (e .origins) n ≡ loaded c i → homeOf (e .origins) c i ≡ suc n
 
+-- a source's first node is canonical
 pub home-canonical : (e : Setting) (c i n : ℕ) → homeOf (e .origins) c i ≡ suc n → Canonical e n
 home-canonical e c i n h c′ i′ q =
     let p : originAt (e .origins) n ≡ loaded c i = home-origin (e .origins) c i n h in
@@ -28,6 +29,7 @@ home-canonical e c i n h c′ i′ q =
     let ii′ : i ≡ i′ = cc in
     rw (← cc′, ← ii′) h
 
+-- so is what `canonical` gives
 pub canonical-canonical : (e : Setting) (a : ℕ) → Canonical e (canonical (e .origins) a)
 unfolding canonical canonicalAs
 canonical-canonical e a = go (originAt (e .origins) a) refl
@@ -41,6 +43,7 @@ canonical-canonical e a = go (originAt (e .origins) a) refl
         let pm : pred (homeOf (e .origins) c₀ i₀) ≡ f .0 = ap pred (f .1) ∙ omega arith in
         subst (λ (k : ℕ). Canonical e k) (sym pm) (home-canonical e c₀ i₀ (f .0) (f .1)) c i h
 
+-- so is what a task reads
 pub reads-canonical : (e : Setting) (o : Task) (m : ℕ) → T (member m (taskReads (e .nodes) (e .origins) o)) → Canonical e m
 unfolding taskReads
 reads-canonical e (computeTask n) m t =
@@ -56,6 +59,7 @@ reads-canonical e (storeTask c i v) m t = one-canonical e v m (or-pass (eqb m (c
     one-canonical e v m (inl u) = subst (λ (k : ℕ). Canonical e k) (sym (eqb→eq m (canonical (e .origins) v) u)) (canonical-canonical e v)
     one-canonical e v m (inr u) = absurd u
 
+-- a flag that is cleared is clear
 pub off-at : (l : List Bool) (n : ℕ) → getD (set l n false) n false ≡ false
 off-at [] n = refl
 off-at (x ∷ xs) zero = refl

@@ -66,6 +66,7 @@ module _ (ns′ : List Node) (ss′ : List Origin) (ws : List Write) where
         both (λ w. waits ns′ ss′ w n) (λ w. anyOf (waits ns′ ss′ w) rest) ws,
       )
 
+  -- a schedule: six steps a computation, five a write
   pub costs-schedule : (cm : List ℕ) (out : ℕ) → costs (schedule ns′ ss′ ws cm out) ≡ 6 * length cm + 5 * (length ws + 1)
   unfolding schedule
   costs-schedule cm out =
@@ -79,6 +80,7 @@ module _ (ns′ : List Node) (ss′ : List Origin) (ws : List Write) where
         none-or (λ w. anyOf (waits ns′ ss′ w) cm) ws,
       )
 
+-- the control phase: seven a computation
 pub costs-control : (home cm : List ℕ) → costs (controlTasks home cm) ≤ 7 * length cm
 costs-control home [] = omega arith
 costs-control home (n ∷ cm) = go (getD home n 0) (costs-control home cm)
@@ -87,6 +89,7 @@ costs-control home (n ∷ cm) = go (getD home n 0) (costs-control home cm)
     go zero ih = omega arith
     go (suc k) ih = omega arith
 
+-- no more writes than memories
 pub writes-count : (c k : ℕ) (us : List ℕ) → length (writesFrom c k us) ≤ length us
 writes-count c k [] = omega arith
 writes-count c k (zero ∷ us) = omega (arith, writes-count c (suc k) us)

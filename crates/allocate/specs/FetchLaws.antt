@@ -17,6 +17,7 @@ use Rattle.allocate.specs.Outcomes.{Post, post-bind}
 use Rattle.allocate.specs.Invariants.{some-lt}
 use Rattle.allocate.specs.StateLaws.{Good, TakeView, was-free, evicted, none, take-view, Sixteen, good-place, good-vacate, good-spill, Spilt, spilt, Keeps, keeps-trans, keeps-place, keeps-vacate, keeps-spill, unset, was-set}
 
+-- what take leaves: the node is held in the register, at most one step was added, nothing at hand is lost
 pub record Took (e : Setting) (home : List ℕ) (n : ℕ) (locked : List ℕ) (s : State) (g : Taken) : Type 0 where
   pub good : Good e home (g .state)
   pub held : registerOf (g .state) n ≡ suc (g .register)
@@ -57,6 +58,7 @@ module _ (e : Setting) (home : List ℕ) (wf : Sixteen e) where
         only = λ m q h. unset (s .holder) v m q h;
       }
 
+  -- eviction, with or without a spill
   pub evicts : (v r : ℕ) (locked : List ℕ) (s : State) → Good e home s → ownerOf s r ≡ suc v → (T (member r locked) → ⊥)
       → Evicted e home v r locked s (evict e v r s)
   unfolding evict vacate
@@ -102,6 +104,7 @@ module _ (e : Setting) (home : List ℕ) (wf : Sixteen e) where
         only = λ m q h. was-set (s .holder) n (suc r) m q h;
       }
 
+  -- TAKE
   pub take-took : (rest : List (List ℕ)) (n : ℕ) (locked : List ℕ) (s : State) → Good e home s → registerOf s n ≡ 0 → n < length (e .origins)
       → Post (Unit {0}) (Took e home n locked s) (takeRegister e rest n locked s)
   unfolding place
@@ -141,14 +144,17 @@ pub record Brought (s s′ : State) : Type 0 where
   pub slots : s′ .slots ≡ s .slots
   pub grow : length (s′ .steps) ≤ length (s .steps) + 1
 
+-- a step more
 pub brought-emit : (x : Action) (s : State) → Brought s (emit x s)
 unfolding emit
 brought-emit x s =
     record { holder = refl; owner = refl; spilled = refl; fresh = refl; good = λ e home g. g; slots = refl; grow = omega (arith, length-append (s .steps) (x ∷ [])) }
 
+-- an instruction more
 pub brought-operation : (x : Operation) (s : State) → Brought s (emitOperation x s)
 brought-operation x s = brought-emit (compute x) s
 
+-- a load, an immediate or a reload
 pub brings : (e : Setting) (n r : ℕ) (s : State) → Brought s (bring e n r s)
 unfolding bring bringFrom
 brings e n r s = go (isFresh s n)
@@ -162,9 +168,11 @@ brings e n r s = go (isFresh s n)
     go true = go₂ (originAt (e .origins) n)
     go false = brought-emit (fromSlot e (pred (slotOf s n)) r) s
 
+-- nothing is lost by it
 pub keeps-brought : (locked : List ℕ) (s s′ : State) → Brought s s′ → Keeps locked s s′
 keeps-brought locked s s′ b = record { keep = λ m h. rw (b .holder, b .spilled, b .fresh) h; lock = λ m q h t. rw (b .holder) h }
 
+-- what fetch leaves: at most two steps were added, and none if the node was held
 pub record Fetched (e : Setting) (home : List ℕ) (n : ℕ) (locked : List ℕ) (s : State) (g : Taken) : Type 0 where
   pub good : Good e home (g .state)
   pub held : registerOf (g .state) n ≡ suc (g .register)
@@ -175,6 +183,7 @@ pub record Fetched (e : Setting) (home : List ℕ) (n : ℕ) (locked : List ℕ)
   pub still : (r : ℕ) → registerOf s n ≡ suc r → g .state ≡ s
 
 module _ (e : Setting) (home : List ℕ) (wf : Sixteen e) where
+  -- FETCH
   pub fetch-fetched : (rest : List (List ℕ)) (n : ℕ) (locked : List ℕ) (s : State) → Good e home s → n < length (e .origins)
       → Post (Unit {0}) (Fetched e home n locked s) (fetch e rest n locked s)
   unfolding fetch

@@ -25,6 +25,7 @@ some-lt (y ∷ ys) (suc i) x h = omega (arith, some-lt ys i x h)
 
 -- ---- registers
 
+-- `holder` and `owner` say the same, and only usable registers are owned
 pub record Regs (registers holder owner : List ℕ) : Type 0 where
   pub down : (n r : ℕ) → getD holder n 0 ≡ suc r → getD owner r 0 ≡ suc n
   pub up : (n r : ℕ) → getD owner r 0 ≡ suc n → getD holder n 0 ≡ suc r
@@ -102,6 +103,7 @@ module _ (registers holder owner : List ℕ) (i : Regs registers holder owner) w
       down m q (inl p) = absurd (omega arith)
       down m q (inr p) = i .down m q (p .1)
 
+  -- a node gives up its register, if it has one
   pub regs-release : (n : ℕ) → Regs registers (set holder n 0) (disown (getD holder n 0) owner)
   regs-release n = go (getD holder n 0) refl
     where
@@ -111,6 +113,7 @@ module _ (registers holder owner : List ℕ) (i : Regs registers holder owner) w
 
 -- ---- slots
 
+-- no number twice
 abbrev pub NoDup : List ℕ → Type 0
 NoDup [] = Unit {0}
 NoDup (x ∷ xs) = (T (member x xs) → ⊥) × NoDup xs
@@ -169,6 +172,7 @@ module _ (home : List ℕ) (fixed : ℕ) (spilled free : List ℕ) (slots : ℕ)
       (λ j t. absurd t)
       tt
 
+  -- .. or the one freed last
   pub slots-reuse : (n k : ℕ) (ks : List ℕ) → free ≡ k ∷ ks → Slots home fixed (set spilled n (suc k)) ks slots
   slots-reuse n k ks e =
       let here : T (member k free) = rw e (or-first (eqb k k) (member k ks) (eqb-refl k)) in

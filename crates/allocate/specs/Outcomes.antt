@@ -9,24 +9,30 @@ abbrev pub Post : {A : Type 0} → Type 0 → (A → Type 0) → Allocated A →
 Post R P (allocated a) = P a
 Post R P allLocked = R
 
+-- of a result that goes on
 pub post-bind : {A B : Type 0} (R : Type 0) (P : A → Type 0) (Q : B → Type 0) (m : Allocated A) (f : A → Allocated B)
     → Post R P m → ((a : A) → P a → Post R Q (f a)) → Post R Q (andThen m f)
 post-bind R P Q (allocated a) f h k = k a h
 post-bind R P Q allLocked f h k = h
 
+-- two results that are one
 pub allocated-is : {A : Type 0} (a c : A) → allocated a ≡ allocated c → a ≡ c
 allocated-is a c h = cc
 
+-- a refusal is no result
 pub not-allocated : {A B : Type 0} (a : A) → allLocked ≡ allocated a → B
 not-allocated a h = let z : _≡_ {A = ℕ} 0 1 = cc in absurd (omega arith)
 
+-- of a result that is known
 pub post-at : {A : Type 0} (P : A → Type 0) (x : Allocated A) (a : A) → Post (Unit {0}) P x → x ≡ allocated a → P a
 post-at P (allocated c) a p h = subst P (allocated-is c a h) p
 post-at P allLocked a p h = not-allocated a h
 
+-- nothing is asked
 abbrev pub Any : {A : Type 0} → A → Type 0
 Any a = Unit {0}
 
+-- it is no refusal
 abbrev pub Sure : {A : Type 0} → Allocated A → Type 0
 Sure m = Post ⊥ Any m
 

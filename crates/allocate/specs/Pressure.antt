@@ -15,6 +15,7 @@ use Rattle.allocate.specs.State.{Setting, State, TakenAll, ownerOf, regi
 use Rattle.allocate.specs.Allocator.{takeRegister, takeFree, evictKey, fetch, fetchHeld, fetchAll, resultRegister, runCompute, runKeep, runStore, runTask, preserve, preserveIf, readLater, homeCode, allocateTask, readsOf, allocate}
 use Rattle.allocate.specs.Outcomes.{Post, post-bind, Any, Sure}
 
+-- a task reads two nodes at most
 pub reads-two : (e : Setting) (o : Task) → length (taskReads (e .nodes) (e .origins) o) ≤ 2
 unfolding taskReads
 reads-two e (computeTask n) = rw lib.ListN.length-map (two-operands (nodeAt (e .nodes) n))
@@ -22,6 +23,7 @@ reads-two e (keepTask k v) = omega arith
 reads-two e (storeTask c i v) = omega arith
 
 module _ (e : Setting) (asc : Ascending 0 (e .registers)) where
+  -- a register is left where fewer are locked than usable
   pub take-sure : (rest : List (List ℕ)) (n : ℕ) (locked : List ℕ) (s : State) → length locked < length (e .registers) → Sure (takeRegister e rest n locked s)
   unfolding takeRegister
   take-sure rest n locked s h = go (firstOf (λ r. isNone (ownerOf s r)) (e .registers))
@@ -33,6 +35,7 @@ module _ (e : Setting) (asc : Ascending 0 (e .registers)) where
       go zero = rw (some .1) tt
       go (suc r) = tt
 
+  -- so fetch finds one
   pub fetch-sure : (rest : List (List ℕ)) (n : ℕ) (locked : List ℕ) (s : State) → length locked < length (e .registers) → Sure (fetch e rest n locked s)
   unfolding fetch
   fetch-sure rest n locked s h = go (registerOf s n)
@@ -41,6 +44,7 @@ module _ (e : Setting) (asc : Ascending 0 (e .registers)) where
       go zero = post-bind ⊥ Any Any (takeRegister e rest n locked s) _ (take-sure rest n locked s h) (λ g u. tt)
       go (suc r) = tt
 
+  -- so do the fetches of a task, each of which locks one
   pub fetchAll-sure : (rest : List (List ℕ)) (ns locked : List ℕ) (s : State) → length locked + length ns ≤ length (e .registers)
       → Post ⊥ (λ g. length (g .registers) ≡ length locked + length ns) (fetchAll e rest ns locked s)
   unfolding fetchAll
@@ -51,6 +55,7 @@ module _ (e : Setting) (asc : Ascending 0 (e .registers)) where
       let q : length (locked ++ (g .register ∷ [])) + length ns ≡ length locked + suc (length ns) = omega arith in
       rw q at (fetchAll-sure rest ns (locked ++ (g .register ∷ [])) (g .state) (omega arith)))
 
+  -- so does the task, with a register left
   pub task-sure : (rest : List (List ℕ)) (reads : List ℕ) (o : Task) (g : TakenAll) → length (g .registers) < length (e .registers) → Sure (runTask e rest reads o g)
   unfolding runTask runCompute runKeep runStore
   task-sure rest reads (computeTask n) g h =
@@ -71,6 +76,7 @@ module _ (e : Setting) (asc : Ascending 0 (e .registers)) where
       go zero = tt
       go (suc n) = go₂ (isFresh (g .state) n && readLater rest n) n
 
+  -- A WHOLE RUN, with three registers
   pub run-sure : 3 ≤ length (e .registers) → (os : List Task) (s : State) → Sure (allocate e os s)
   unfolding allocate allocateTask
   run-sure h [] s = tt

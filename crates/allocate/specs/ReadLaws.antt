@@ -46,6 +46,7 @@ holds-keep locked s s′ k (n ∷ ns) [] sub h = h
 holds-keep locked s s′ k (n ∷ ns) (r ∷ rs) sub h =
     (k .lock n r (h .0) (sub r (or-first (eqb r r) (member r rs) (eqb-refl r))), holds-keep locked s s′ k ns rs (λ q t. sub q (member-skip q r rs t)) (h .1))
 
+-- each of them is held
 pub holds-at : (s : State) (ns rs : List ℕ) (n : ℕ) → Holds s ns rs → T (member n ns) → (r : ℕ) × (registerOf s n ≡ suc r)
 holds-at s [] [] n h t = absurd t
 holds-at s [] (x ∷ rs) n h t = absurd t
@@ -56,6 +57,7 @@ holds-at s (m ∷ ns) (r ∷ rs) n h t = go (or-pass (eqb n m) (member n ns) t) 
     go (inl u) ih = (r, rw (eqb→eq n m u) (h .0))
     go (inr u) ih = ih u
 
+-- what the fetches of `ns` leave, behind those of `ds`: all are held, two steps each at most, none where all were held
 pub record FetchedAll (e : Setting) (home : List ℕ) (ds ns : List ℕ) (s : State) (g : TakenAll) : Type 0 where
   pub good : Good e home (g .state)
   pub held : Holds (g .state) (ds ++ ns) (g .registers)
@@ -66,6 +68,7 @@ pub record FetchedAll (e : Setting) (home : List ℕ) (ds ns : List ℕ) (s : St
   pub quiet : ((m : ℕ) → T (member m ns) → T (isSome (registerOf s m))) → g .state ≡ s
 
 module _ (e : Setting) (home : List ℕ) (wf : Sixteen e) where
+  -- THE FETCHES of a task
   pub fetchAll-fetched : (rest : List (List ℕ)) (ns ds locked : List ℕ) (s : State) → Good e home s → ((m : ℕ) → T (member m ns) → m < length (e .origins))
       → Holds s ds locked
       → Post (Unit {0}) (FetchedAll e home ds ns s) (fetchAll e rest ns locked s)
@@ -111,6 +114,7 @@ module _ (e : Setting) (home : List ℕ) (wf : Sixteen e) where
 
 -- ---- releases
 
+-- what releases leave: nothing that is read later is lost
 pub record Let (rest : List (List ℕ)) (s s′ : State) : Type 0 where
   pub keep : (m : ℕ) → T (readLater rest m) → T (avail s m) → T (avail s′ m)
   pub hold : (m : ℕ) → T (readLater rest m) → registerOf s′ m ≡ registerOf s m
@@ -131,6 +135,7 @@ module _ (e : Setting) (home : List ℕ) (wf : Sixteen e) (rest : List (List ℕ
         fresh = refl;
       }
 
+  -- THE RELEASES of a task
   pub releaseAll-let : (ns : List ℕ) (s : State) → Good e home s → Good e home (releaseAll e rest ns s) × Let rest s (releaseAll e rest ns s)
   unfolding releaseAll
   releaseAll-let [] s g = (g, record { keep = λ m t h. h; hold = λ m t. refl; only = λ m q h. h; steps = refl; fresh = refl })
@@ -154,6 +159,7 @@ module _ (e : Setting) (home : List ℕ) (wf : Sixteen e) (rest : List (List ℕ
 
 -- ---- a result's register
 
+-- what a result's register leaves: the result is held, at most one step was added, nothing that is read later is lost
 pub record Aimed (e : Setting) (home : List ℕ) (rest : List (List ℕ)) (n : ℕ) (s : State) (t : Taken) : Type 0 where
   pub good : Good e home (t .state)
   pub held : registerOf (t .state) n ≡ suc (t .register)
@@ -205,6 +211,7 @@ module _ (e : Setting) (home : List ℕ) (wf : Sixteen e) (rest : List (List ℕ
       older m q (inl z) = inl z
       older m q (inr z) = inr (unset (s .holder) d m q z)
 
+  -- A RESULT'S REGISTER, lent or taken
   pub target-aimed : (n : ℕ) (reads : List ℕ) (g : TakenAll) → Good e home (g .state) → Holds (g .state) reads (g .registers) → registerOf (g .state) n ≡ 0
       → n < length (e .origins)
       → Post (Unit {0}) (Aimed e home rest n (g .state)) (resultRegister e rest n (g .registers) (g .state) (firstOf (λ d. not (readLater rest d)) reads))

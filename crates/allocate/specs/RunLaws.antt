@@ -22,10 +22,12 @@ use Rattle.allocate.specs.StateLaws.{Good, Sixteen}
 use Rattle.allocate.specs.ReadLaws.{FetchedAll, fetchAll-fetched}
 use Rattle.allocate.specs.TaskLaws.{Invariant, ReadsOk, Next, known, compute-next, keep-next, store-next}
 
+-- a keep reads its value
 pub reads-keep : (e : Setting) (k v : ℕ) → taskReads (e .nodes) (e .origins) (keepTask k v) ≡ canonical (e .origins) v ∷ []
 unfolding taskReads
 reads-keep e k v = refl
 
+-- so does a store
 pub reads-store : (e : Setting) (c i v : ℕ) → taskReads (e .nodes) (e .origins) (storeTask c i v) ≡ canonical (e .origins) v ∷ []
 unfolding taskReads
 reads-store e c i v = refl
@@ -37,6 +39,7 @@ single m v t = go (or-pass (eqb m v) false t)
     go (inl u) = u
     go (inr u) = absurd u
 
+-- hoisted values' slots are below `fixed`, and no two are one
 pub record HomesOk (home : List ℕ) (fixed : ℕ) : Type 0 where
   pub lt : (n k : ℕ) → getD home n 0 ≡ suc k → k < fixed
   pub inj : (m l k : ℕ) → getD home m 0 ≡ suc k → getD home l 0 ≡ suc k → m ≡ l
@@ -50,11 +53,13 @@ TasksOk e home done last (keepTask k v ∷ os) =
     ReadsOk e done (taskReads (e .nodes) (e .origins) (keepTask k v)) × (last ≡ suc v) × (canonical (e .origins) v ≡ v) × (getD home v 0 ≡ suc k) × TasksOk e home done 0 os
 TasksOk e home done last (storeTask c i v ∷ os) = ReadsOk e done (taskReads (e .nodes) (e .origins) (storeTask c i v)) × TasksOk e home done 0 os
 
+-- at most so many steps: two fetches of two steps, a spill and the compute; the store of what is held; a fetch, a fetch of the old value and the store
 abbrev pub cost : Task → ℕ
 cost (computeTask n) = 6
 cost (keepTask k v) = 1
 cost (storeTask c i v) = 5
 
+-- all tasks together
 abbrev pub costs : List Task → ℕ
 costs [] = 0
 costs (o ∷ os) = cost o + costs os
@@ -62,6 +67,7 @@ costs (o ∷ os) = cost o + costs os
 abbrev Hot : ℕ → List (List ℕ) → State → Type 0
 Hot last rest s = (v : ℕ) → last ≡ suc v → T (readLater rest v) → T (isSome (registerOf s v))
 
+-- what a run leaves: a good state, and so many steps more at most
 pub record Ran (e : Setting) (home : List ℕ) (c : ℕ) (s s′ : State) : Type 0 where
   pub good : Good e home s′
   pub grow : length (s′ .steps) ≤ length (s .steps) + c
@@ -80,6 +86,7 @@ module _ (e : Setting) (home : List ℕ) (wf : Sixteen e) (hk : HomesOk home (e 
       go allLocked r = tt
   after rest os done last c s allLocked f k = tt
 
+  -- A WHOLE RUN
   pub run-ran : (os : List Task) (done : List ℕ) (last : ℕ) (s : State) → TasksOk e home done last os → Invariant e home done (readsOf e os) s
       → Hot last (readsOf e os) s
       → Post (Unit {0}) (Ran e home (costs os) s) (allocate e os s)

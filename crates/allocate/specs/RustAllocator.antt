@@ -42,16 +42,19 @@ hideAll e c i s =
       most = s .most;
     }
 
+-- codegen.rs: `run`, the arm of memory writes
 unfoldable pub runStoreAll : Setting → List (List ℕ) → List ℕ → ℕ → ℕ → TakenAll → Allocated State
 runStoreAll e rest reads c i g =
     andThen (preserveAll e rest (homeCode c) i (g .registers) (g .state) (countUp 0 (length (e .origins))))
     (λ s. allocated (releaseAll e rest reads (hideAll e (homeCode c) i (emit (storeAction c i (getD (g .registers) 0 0)) s))))
 
+-- codegen.rs: `run`, the match on the op
 unfoldable pub runTaskAll : Setting → List (List ℕ) → List ℕ → Task → TakenAll → Allocated State
 runTaskAll e rest reads (computeTask n) g = runCompute e rest reads n g
 runTaskAll e rest reads (keepTask k v) g = runKeep e rest reads k v g
 runTaskAll e rest reads (storeTask c i v) g = runStoreAll e rest reads c i g
 
+-- codegen.rs: `Allocator::run`
 unfoldable pub allocateAll : Setting → List Task → State → Allocated State
 allocateAll e [] s = allocated s
 allocateAll e (o ∷ os) s =
@@ -60,6 +63,7 @@ allocateAll e (o ∷ os) s =
 
 -- ---- two states that differ in what is fresh, and not for nodes that can be read
 
+-- a state with other flags
 abbrev pub withFresh : List Bool → State → State
 withFresh fr s =
     record {
@@ -94,6 +98,7 @@ best-ext f g (x ∷ xs) h = rw (best-ext f g xs (λ r t. h r (or-second (eqb r x
     go (suc r) m = rw (h x (or-first (eqb x x) (member x xs) (eqb-refl x)), h r (or-second (eqb r x) (member r xs) (m r refl)))
 
 module _ (e : Setting) (fr : List Bool) where
+  -- the flags agree on what can be read, and only that is held
   pub record Twin (s : State) : Type 0 where
     pub agree : (n : ℕ) → Canonical e n → getD fr n false ≡ isFresh s n
     pub own : (r n : ℕ) → ownerOf s r ≡ suc n → Canonical e n

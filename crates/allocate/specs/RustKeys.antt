@@ -104,6 +104,7 @@ abbrev pub unwrapOr : ℕ → ℕ → ℕ
 unwrapOr top zero = top
 unwrapOr top (suc x) = x
 
+-- what `next_read(node).unwrap_or(usize::MAX)` gives when the ops `done` are done
 pub next-read-key : (top nodes n : ℕ) (done rest : List (List ℕ)) → n < nodes
     → let table : List (List ℕ) = readTable 0 (done ++ rest) (replicate nodes []) in
     unwrapOr top (nextReadIn table (advanceAll 0 done table (replicate nodes 0)) n) ≡ nextRead top (length done) rest n

@@ -116,6 +116,7 @@ hideLoads c i xs [] = []
 hideLoads c i [] (f ∷ fs) = f ∷ fs
 hideLoads c i (x ∷ xs) (f ∷ fs) = cond (isLoad c i x) false f ∷ hideLoads c i xs fs
 
+-- flag m afterwards
 pub hide-at : (c i : ℕ) (xs : List Origin) (fs : List Bool) (m : ℕ) → getD (hideLoads c i xs fs) m false ≡ cond (isLoad c i (originAt xs m)) false (getD fs m false)
 hide-at c i xs [] m = go (isLoad c i (originAt xs m))
   where

@@ -23,11 +23,13 @@ use Rattle.allocate.specs.State.{Setting}
 use Rattle.allocate.specs.TaskLaws.{ReadsOk, known}
 use Rattle.allocate.specs.RunLaws.{TasksOk, HomesOk}
 
+-- the control slots are as the allocator asks
 pub number-ok : (fs : List Bool) → HomesOk (number 0 fs) (count (number 0 fs))
 number-ok fs = record { lt = λ n k h. omega (arith, number-lt 0 fs n k h .2); inj = λ m l k. number-inj 0 fs m l k }
 
 -- what a schedule over sources ss and computations comps needs
 module _ (ns : List Node) (ss : List Origin) (registers home : List ℕ) (inControl : Bool) (fixed : ℕ) where
+  -- the setting of such a phase
   abbrev pub settingOf : Setting
   settingOf = record { nodes = ns; origins = ss; registers = registers; inControl = inControl; fixed = fixed }
 
@@ -43,6 +45,7 @@ module _ (ns : List Node) (ss : List Origin) (registers home : List ℕ) (inCont
       go (inl t) = let r = canonical-origin ss a (u .0) t in (r .0, or-second (member (canonical ss a) done) (hasOrigin (originAt ss (canonical ss a))) (r .1))
       go (inr t) = rw (canonical-computed ss a (t .0)) (u .0, or-first (member a done) (hasOrigin (originAt ss a)) (t .1))
 
+  -- the reads of a computation whose operands are usable
   pub reads-comp : (done : List ℕ) (n : ℕ) → ((a : ℕ) → T (member a (operands (nodeAt ns n))) → Usable done a)
       → ReadsOk settingOf done (taskReads ns ss (computeTask n))
   unfolding taskReads
@@ -57,10 +60,12 @@ module _ (ns : List Node) (ss : List Origin) (registers home : List ℕ) (inCont
       go (inl w) = rw (eqb→eq m (canonical ss v) w) (read-ok done v u)
       go (inr w) = absurd w
 
+  -- .. of a write
   pub reads-write : (done : List ℕ) (c i v : ℕ) → Usable done v → ReadsOk settingOf done (taskReads ns ss (storeTask c i v))
   unfolding taskReads
   reads-write done c i v u = one-of done v u
 
+  -- .. of a keep
   pub reads-home : (done : List ℕ) (k v : ℕ) → Usable done v → ReadsOk settingOf done (taskReads ns ss (keepTask k v))
   unfolding taskReads
   reads-home done k v u = one-of done v u
@@ -147,6 +152,7 @@ module _ (ns : List Node) (ss : List Origin) (registers home : List ℕ) (inCont
       unfolding waits
       waits-value w rest h t = any-no (waits ns ss w) rest (w .value) h t (or-first (eqb (w .value) (w .value)) _ (eqb-refl (w .value)))
 
+      -- the computations that are left, with their writes
       pub schedule-from-ok : (ws : List Write) (os : List Task) → AllWrites (λ w. Value (w .value)) ws
           → ((done : List ℕ) (k last : ℕ) → Parts done [] k → TasksOk settingOf home done last os)
           → (rest done : List ℕ) (k last : ℕ) → Parts done rest k → TasksOk settingOf home done last (scheduleFrom ns ss ws rest ++ os)
@@ -167,6 +173,7 @@ module _ (ns : List Node) (ss : List Origin) (registers home : List ℕ) (inCont
                 (suc n)),
           )
 
+      -- THE SAMPLE PHASE'S TASKS
       pub schedule-ok : (ws : List Write) (out : ℕ) → AllWrites (λ w. Value (w .value)) ws → Value out → Ascending 0 comps
           → TasksOk settingOf home [] 0 (schedule ns ss ws comps out)
       unfolding schedule
@@ -179,6 +186,7 @@ module _ (ns : List Node) (ss : List Origin) (registers home : List ℕ) (inCont
           (λ last. schedule-from-ok ws (storeTask 12 0 out ∷ []) a (λ done k last p. (reads-write done 12 0 out (value-usable done [] k out p vo (λ t. t)), tt)) comps [] 0 last p0)
           0
 
+      -- the control phase's computations that are left
       pub control-ok : (rest done : List ℕ) (k last : ℕ) → Parts done rest k → TasksOk settingOf home done last (controlTasks home rest)
       control-ok [] done k last p = tt
       control-ok (n ∷ rest) done k last p = go (getD home n 0) refl (λ last. control-ok rest (n ∷ done) (suc n) last (parts-next done n rest k p))
@@ -195,6 +203,7 @@ module _ (ns : List Node) (ss : List Origin) (registers home : List ℕ) (inCont
                 (reads-home (n ∷ done) j n (s .0, inr (s .1, or-first (eqb n n) (member n done) (eqb-refl n))), refl, canonical-computed ss n (s .1), q, f 0),
               )
 
+      -- THE CONTROL PHASE'S TASKS
       pub control-all-ok : Ascending 0 comps → TasksOk settingOf home [] 0 (controlTasks home comps)
       control-all-ok asc = control-ok comps [] 0 0 (record { split = λ m t. inr t; part = λ m t. t; low = λ m t. absurd t; high = asc })
 

@@ -19,6 +19,8 @@ use Rattle.allocate.specs.State.{Allocated, allocated, allLocked, Settin
 use Rattle.allocate.specs.Allocator.{evict, evictKey, takeBest, takeFree, takeRegister}
 use Rattle.allocate.specs.Invariants.{Regs, Slots, regs-place, regs-vacate, regs-release, slots-new, slots-reuse, slots-release}
 
+-- the allocator's invariant on its tables: registers and slots as above, every table as long as it should be, only what has an origin is fresh,
+-- and no more registers were ever held than are usable
 pub record GoodF (e : Setting) (home holder owner spilled : List ℕ) (fresh : List Bool) (free : List ℕ) (count most : ℕ) : Type 0 where
   pub registers : Regs (e .registers) holder owner
   pub slots : Slots home (e .fixed) spilled free count
@@ -29,6 +31,7 @@ pub record GoodF (e : Setting) (home holder owner spilled : List ℕ) (fresh : L
   pub src : (n : ℕ) → T (getD fresh n false) → T (hasOrigin (originAt (e .origins) n))
   pub held : most ≤ length (e .registers)
 
+-- .. of a state
 abbrev pub Good : Setting → List ℕ → State → Type 0
 Good e home s = GoodF e home (s .holder) (s .owner) (s .spilled) (s .fresh) (s .free) (s .slots) (s .most)
 
@@ -55,6 +58,7 @@ not-T : (b : Bool) → T (not b) → T b → ⊥
 not-T true t u = t
 not-T false t u = u
 
+-- it does one of these
 pub take-view : (e : Setting) (rest : List (List ℕ)) (n : ℕ) (locked : List ℕ) (s : State) → TakeView e n locked s (takeRegister e rest n locked s)
 unfolding takeRegister
 take-view e rest n locked s = go (firstOf (λ r. isNone (ownerOf s r)) (e .registers)) refl
@@ -74,10 +78,12 @@ take-view e rest n locked s = go (firstOf (λ r. isNone (ownerOf s r)) (e .regis
         let p : T (member r (e .registers)) × (isNone (ownerOf s r) ≡ true) = first-some (λ r. isNone (ownerOf s r)) (e .registers) r q in
         was-free r (isZero-zero (ownerOf s r) (p .1)) (p .0)
 
+-- the usable registers are below sixteen, in ascending order
 pub record Sixteen (e : Setting) : Type 0 where
   pub small : (r : ℕ) → T (member r (e .registers)) → r < 16
   pub ascending : Ascending 0 (e .registers)
 
+-- the greater of two is within what both are within
 pub max-le : (a c n : ℕ) → a ≤ n → c ≤ n → max a c ≤ n
 max-le a c n h k = omega arith
 
@@ -119,6 +125,7 @@ owners-count registers owner a h = count-inside 0 registers owner a (λ r n q. l
 -- ---- the parts of take
 
 module _ (e : Setting) (home : List ℕ) (wf : Sixteen e) where
+  -- a free register is given to a node that has none
   pub good-place : (n r : ℕ) (s : State) → Good e home s → ownerOf s r ≡ 0 → registerOf s n ≡ 0 → n < length (e .origins) → T (member r (e .registers))
       → Good e home (place n r s)
   unfolding place
@@ -135,6 +142,7 @@ module _ (e : Setting) (home : List ℕ) (wf : Sixteen e) where
         held = max-le (s .most) (count (set (s .owner) r (suc n))) (length (e .registers)) (g .held) (owners-count (e .registers) (set (s .owner) r (suc n)) (wf .ascending) (λ q m h. placed .inside m q h));
       }
 
+  -- a register is given up
   pub good-vacate : (v r : ℕ) (s : State) → Good e home s → ownerOf s r ≡ suc v → Good e home (vacate v r s)
   unfolding vacate
   good-vacate v r s g hr =
@@ -149,6 +157,7 @@ module _ (e : Setting) (home : List ℕ) (wf : Sixteen e) where
         held = g .held;
       }
 
+  -- a value is saved
   pub good-spill : (v r : ℕ) (s : State) → Good e home s → Good e home (spillOut e v r s)
   unfolding spillOut
   good-spill v r s g = go (s .free) refl
@@ -177,6 +186,7 @@ module _ (e : Setting) (home : List ℕ) (wf : Sixteen e) where
             held = g .held;
           }
 
+  -- a node is released
   pub good-release : (n : ℕ) (s : State) → Good e home s → Good e home (release e n s)
   unfolding release
   good-release n s g =
@@ -204,6 +214,7 @@ pub record Spilt (n : ℕ) (s s′ : State) : Type 0 where
   pub spilled : (k : ℕ) × (s′ .spilled ≡ set (s .spilled) n (suc k))
   pub grow : length (s′ .steps) ≡ length (s .steps) + 1
 
+-- so does `spillOut`
 pub spilt : (e : Setting) (n r : ℕ) (s : State) → Spilt n s (spillOut e n r s)
 unfolding spillOut
 spilt e n r s = go (s .free)
@@ -212,9 +223,11 @@ spilt e n r s = go (s .free)
     go [] = record { holder = refl; owner = refl; fresh = refl; slots = omega arith; spilled = (s .slots, refl); grow = length-append (s .steps) _ }
     go (k ∷ ks) = record { holder = refl; owner = refl; fresh = refl; slots = omega arith; spilled = (k, refl); grow = length-append (s .steps) _ }
 
+-- an option that is some passes
 pub is-suc : (n k : ℕ) → n ≡ suc k → T (isSome n)
 is-suc n k h = rw h tt
 
+-- .. and back
 pub suc-is : (n : ℕ) → T (isSome n) → n ≡ suc (pred n)
 suc-is zero t = absurd t
 suc-is (suc n) t = omega arith
@@ -224,9 +237,11 @@ pub record Keeps (locked : List ℕ) (s s′ : State) : Type 0 where
   pub keep : (m : ℕ) → T (avail s m) → T (avail s′ m)
   pub lock : (m q : ℕ) → registerOf s m ≡ suc q → T (member q locked) → registerOf s′ m ≡ suc q
 
+-- twice
 pub keeps-trans : (locked : List ℕ) (s t u : State) → Keeps locked s t → Keeps locked t u → Keeps locked s u
 keeps-trans locked s t u a b = record { keep = λ m h. b .keep m (a .keep m h); lock = λ m q h t. b .lock m q (a .lock m q h t) t }
 
+-- placing loses nothing
 pub keeps-place : (locked : List ℕ) (n r : ℕ) (s : State) → n < length (s .holder) → registerOf s n ≡ 0 → Keeps locked s (place n r s)
 unfolding place
 keeps-place locked n r s ln hn =
@@ -239,6 +254,7 @@ keeps-place locked n r s ln hn =
     keep m (yes z) h = rw (z, getD-set-same (s .holder) n (suc r) 0 ln) tt
     keep m (no z) h = rw (getD-set-other (s .holder) n m (suc r) 0 z) h
 
+-- giving up the register of a value that can be loaded again loses nothing
 pub keeps-vacate : (locked : List ℕ) (v r : ℕ) (s : State) → T (reloadable s v) → registerOf s v ≡ suc r → (T (member r locked) → ⊥) → Keeps locked s (vacate v r s)
 unfolding vacate
 keeps-vacate locked v r s re hv nl =
@@ -254,6 +270,7 @@ keeps-vacate locked v r s re hv nl =
     keep m (yes z) h = or-second (isSome (getD (set (s .holder) v 0) m 0)) (reloadable s m) (rw z re)
     keep m (no z) h = rw (getD-set-other (s .holder) v m 0 0 z) h
 
+-- a spill loses nothing, and the value can be loaded again
 pub keeps-spill : (locked : List ℕ) (e : Setting) (v r : ℕ) (s : State) → v < length (s .spilled)
     → Keeps locked s (spillOut e v r s) × T (reloadable (spillOut e v r s) v)
 keeps-spill locked e v r s lv =
@@ -275,6 +292,7 @@ keeps-spill locked e v r s lv =
         let sp : Spilt v s (spillOut e v r s) = spilt e v r s in
         rw (sp .holder, sp .fresh, sp .spilled .1, getD-set-other (s .spilled) v m (suc (sp .spilled .0)) 0 z) h
 
+-- what is some after a store of none was some before
 pub unset : (l : List ℕ) (v m q : ℕ) → getD (set l v 0) m 0 ≡ suc q → getD l m 0 ≡ suc q
 unset l v m q h = go (set-says l v 0 m q h)
   where
@@ -282,6 +300,7 @@ unset l v m q h = go (set-says l v 0 m q h)
     go (inl p) = absurd (omega arith)
     go (inr p) = p .1
 
+-- what is some after a store was stored, or was some before
 pub was-set : (l : List ℕ) (n a m q : ℕ) → getD (set l n a) m 0 ≡ suc q → (m ≡ n) ⊎ (getD l m 0 ≡ suc q)
 was-set l n a m q h = go (set-says l n a m q h)
   where

@@ -24,10 +24,12 @@ use Rattle.allocate.specs.StateLaws.{Good, avail, Sixteen, Keeps}
 use Rattle.allocate.specs.FetchLaws.{Fetched, fetch-fetched, Brought, brought-emit, brought-operation, keeps-brought}
 use Rattle.allocate.specs.ReadLaws.{FetchedAll, Let, releaseAll-let, Aimed, target-aimed}
 
+-- a disjunction's second part may be weakened
 pub or-map : (a b c : Bool) → (T b → T c) → T (a || b) → T (a || c)
 or-map true b c f t = tt
 or-map false b c f t = f t
 
+-- a store of some keeps what is some
 pub set-still : (l : List ℕ) (v k m : ℕ) → T (isSome (getD l m 0)) → T (isSome (getD (set l v (suc k)) m 0))
 set-still [] v k m t = t
 set-still (x ∷ xs) zero k zero t = tt
@@ -46,12 +48,15 @@ slotted h l v k m fr t =
     let b : Bool = isSome (getD (set l v (suc k)) m 0) in
     or-map h (a || fr) (b || fr) (λ u. or-map-l a b fr (λ w. set-still l v k m w) u) t
 
+-- what is held is at hand
 pub avail-held : (s : State) (m : ℕ) → T (isSome (registerOf s m)) → T (avail s m)
 avail-held s m t = or-first (isSome (registerOf s m)) (reloadable s m) t
 
+-- node m is computed, or has an origin
 abbrev pub known : Setting → List ℕ → ℕ → Bool
 known e done m = member m done || hasOrigin (originAt (e .origins) m)
 
+-- THE INVARIANT between tasks: the state is good; what is known and still to be read is at hand; what is held is known
 pub record Invariant (e : Setting) (home done : List ℕ) (rest : List (List ℕ)) (s : State) : Type 0 where
   pub good : Good e home s
   pub ready : (m : ℕ) → T (readLater rest m) → T (known e done m) → T (avail s m)
@@ -61,6 +66,7 @@ pub record Invariant (e : Setting) (home done : List ℕ) (rest : List (List ℕ
 abbrev pub ReadsOk : Setting → List ℕ → List ℕ → Type 0
 ReadsOk e done reads = (m : ℕ) → T (member m reads) → (m < length (e .origins)) × T (known e done m)
 
+-- what a task leaves: the invariant, and so many steps more at most
 pub record Next (e : Setting) (home done : List ℕ) (rest : List (List ℕ)) (cost : ℕ) (s s′ : State) : Type 0 where
   pub inv : Invariant e home done rest s′
   pub grow : length (s′ .steps) ≤ length (s .steps) + cost
@@ -100,6 +106,7 @@ module _ (e : Setting) (home : List ℕ) (wf : Sixteen e) (done : List ℕ) (res
   zero-of zero h = refl
   zero-of (suc q) h = absurd (h q refl)
 
+  -- A COMPUTE
   pub compute-next : (reads : List ℕ) (n : ℕ) (s : State) (g : TakenAll) → Invariant e home done (reads ∷ rest) s → ReadsOk e done reads
       → n < length (e .origins) → (T (known e done n) → ⊥)
       → FetchedAll e home [] reads s g
@@ -199,6 +206,7 @@ stale-keep fr n h sl m safe t = go (ℕ-discrete m n)
     go (no z) = rw (getD-set-other fr n m false false z) t
 
 module _ (e : Setting) (home : List ℕ) (wf : Sixteen e) (rest : List (List ℕ)) where
+  -- `preserve` does that
   pub preserve-saved : (locked : List ℕ) (s : State) → Good e home s → (h : ℕ) → ((n : ℕ) → h ≡ suc n → n < length (e .origins))
       → Post (Unit {0}) (Saved e home rest locked h s) (preserve e rest locked s h)
   preserve-saved locked s g zero ln =
@@ -230,6 +238,7 @@ module _ (e : Setting) (home : List ℕ) (wf : Sixteen e) (rest : List (List ℕ
           sc m q (inl z) = inl (ap suc z)
           sc m q (inr z) = inr z
 
+  -- what is lost when memory is overwritten: what was fresh there and nowhere else
   pub record Staled (h : ℕ) (s s′ : State) : Type 0 where
     pub good : Good e home s → Good e home s′
     pub holder : s′ .holder ≡ s .holder
@@ -248,6 +257,7 @@ module _ (e : Setting) (home : List ℕ) (wf : Sixteen e) (rest : List (List ℕ
       go (yes z) = absurd (rw (z, off (s .fresh) n) at t)
       go (no z) = g .src m (rw (getD-set-other (s .fresh) n m false false z) at t)
 
+  -- `stale` does that
   pub stales : (h : ℕ) (s : State) → Staled h s (stale h s)
   unfolding stale
   stales zero s = record { good = λ g. g; holder = refl; steps = refl; keep = λ m f t. t }
@@ -260,6 +270,7 @@ module _ (e : Setting) (home : List ℕ) (wf : Sixteen e) (rest : List (List ℕ
       }
 
 module _ (e : Setting) (home : List ℕ) (wf : Sixteen e) (done : List ℕ) (rest : List (List ℕ)) where
+  -- A STORE
   pub store-next : (reads : List ℕ) (c i₀ : ℕ) (s : State) (g : TakenAll) → Invariant e home done (reads ∷ rest) s → ReadsOk e done reads
       → ((n : ℕ) → homeOf (e .origins) (homeCode c) i₀ ≡ suc n → (n < length (e .origins)) × T (known e done n))
       → FetchedAll e home [] reads s g

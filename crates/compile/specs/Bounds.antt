@@ -31,10 +31,12 @@ use Rattle.compile.specs.PhasesFit.{DraftFits, flow-fits, usable-sixteen
 
 -- ---- the words of a draft
 
+-- two words a step
 pub steps-length : (number : ℕ) (actions : List Action) → length (stepWords number actions) ≡ 2 * length actions
 steps-length number [] = refl
 steps-length number (x ∷ xs) = omega (arith, steps-length (number + length (operationIn x)) xs)
 
+-- two words an instruction
 pub instructions-length : (operations : List Operation) → length (instructionWords operations) ≡ 2 * length operations
 instructions-length [] = refl
 instructions-length (x ∷ xs) = omega (arith, instructions-length xs)
@@ -59,6 +61,7 @@ pub record FromDraft (graph : Graph) (mask : ℕ) (c : Compiled) : Type 0 where
   pub gives : compileFlow (flowOf graph) mask ≡ allocated draft
   pub words : c ≡ compiledOf draft
 
+-- it is so of every result
 pub from-draft : (graph : Graph) (mask : ℕ) (c : Compiled) → compile graph mask ≡ allocated c → FromDraft graph mask c
 unfolding compile
 from-draft graph mask c h = go (compileFlow (flowOf graph) mask) refl h
@@ -97,6 +100,7 @@ draft-fits b mask d f =
       sixteen = omega (arith, f .most, usable-sixteen mask);
     }
 
+-- a valid block's kernel is within them
 pub compile-bounds : (b : Block) → Valid b → (mask : ℕ) (c : Compiled) → compile (graphOf b) mask ≡ allocated c → Fits b mask c
 compile-bounds b v mask c h =
     let d = from-draft (graphOf b) mask c h in
@@ -113,6 +117,7 @@ pub record CountsFit (c : Compiled) : Type 0 where
   pub spills : c .kernel .spills < 4294967296
   pub registers : c .registers < 4294967296
 
+-- so are a valid block's
 pub counts-fit : (b : Block) → Valid b → (mask : ℕ) (c : Compiled) → compile (graphOf b) mask ≡ allocated c → CountsFit c
 counts-fit b v mask c h =
     let f = compile-bounds b v mask c h in
@@ -130,6 +135,7 @@ counts-fit b v mask c h =
 
 -- ---- A CALL leaves every lent table as long as it was
 
+-- each table as long as before
 pub record SameLengths (t after : Tables) : Type 0 where
   pub expansion : length (after .expansion) ≡ length (t .expansion)
   pub steps : length (after .steps) ≡ length (t .steps)
@@ -143,6 +149,7 @@ pub record Room (b : Block) (t : Tables) : Type 0 where
   pub instructions : 2 * mostSteps (expandedLength b) (memoryCount b) ≤ length (t .instructions)
   pub work : workWords (expandedLength b) (memoryCount b) ≤ length (t .work)
 
+-- where 13 is not given
 pub room : (b : Block) (t : Tables) → tooShort b t ≡ false → Room b t
 unfolding shorter
 room b t e =
@@ -180,6 +187,7 @@ compiled-lengths b v mask t q allLocked e =
       work = zeros-length (length (t .work));
     }
 
+-- it is so of every call, whatever it answers
 pub call-lengths : (b : Block) (mask : ℕ) (t : Tables) → SameLengths t (compileCall b mask t .tables)
 unfolding compileCall compileJudged tablesAfter
 call-lengths b mask t = go (validation b ⨾ refuse 13 (tooShort b t)) refl

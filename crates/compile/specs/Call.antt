@@ -22,9 +22,11 @@ use Rattle.compile.specs.Compile.{compile}
 abbrev pub mostSteps : ℕ → ℕ → ℕ
 mostSteps nodes memories = 7 * nodes + 5 * (memories + 1)
 
+-- the words of the work table
 abbrev pub workWords : ℕ → ℕ → ℕ
 workWords nodes memories = 32 * nodes + 16 * memories + 320
 
+-- S+D
 abbrev pub memoryCount : Block → ℕ
 memoryCount b = stateCount b + delayCount b
 
@@ -43,10 +45,12 @@ pub record Tables : Type 0 where
   pub instructions : List ℕ
   pub work : List ℕ
 
+-- the four, in this order
 abbrev pub tables : List ℕ → List ℕ → List ℕ → List ℕ → Tables
 tables expansion steps instructions work =
     record { expansion = expansion; steps = steps; instructions = instructions; work = work }
 
+-- .. of a block and the tables that are lent
 abbrev pub tooShort : Block → Tables → Bool
 tooShort b t =
     shorter (expandedLength b) (memoryCount b) (length (t .expansion)) (length (t .steps)) (length (t .instructions)) (length (t .work))
@@ -67,6 +71,7 @@ abbrev pub compiledAnswer : Allocated Compiled → Answer Done
 compiledAnswer (allocated c) = accepted (record { kernel = c .kernel; registers = c .registers })
 compiledAnswer allLocked = refused 14 []
 
+-- THE ANSWER: 1 to 14, or the kernel
 unfoldable pub compileAnswer : Block → ℕ → Tables → Answer Done
 compileAnswer b mask t = compileJudged b t ⨾ compiledAnswer (compile (graphOf b) mask)
 
@@ -80,6 +85,7 @@ expansionAfter b table = graphOf b .nodes ++ drop (3 * expandedLength b) table
 abbrev pub zeroPast : List ℕ → List ℕ → List ℕ
 zeroPast words table = words ++ zeros (length table - length words)
 
+-- the whole lent table, however long
 abbrev pub allZero : List ℕ → List ℕ
 allZero table = zeros (length table)
 
@@ -100,9 +106,11 @@ pub record Outcome : Type 0 where
   pub answer : Answer Done
   pub tables : Tables
 
+-- an answer and tables
 abbrev pub outcome : Answer Done → Tables → Outcome
 outcome answer t = record { answer = answer; tables = t }
 
+-- THE CALL
 unfoldable pub compileCall : Block → ℕ → Tables → Outcome
 compileCall b mask t =
     outcome (compileAnswer b mask t) (tablesAfter (compileJudged b t) (compile (graphOf b) mask) b t)

@@ -16,6 +16,7 @@ use Rattle.compile.specs.Draft.{usable, usableBit, compileFlow, compileP
 use Rattle.compile.specs.Words.{Compiled, compiledOf}
 use Rattle.compile.specs.Compile.{compile}
 
+-- the usable registers ascend
 pub usable-ascending : (mask : ℕ) → Ascending 0 (usable mask)
 unfolding usable
 usable-ascending mask = ascending-filter (usableBit mask) 0 0 16 (omega arith)

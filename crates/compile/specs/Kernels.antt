@@ -189,6 +189,7 @@ stays b mask n vs v t = rw v
 abbrev pub Calls : Block → ℕ → Allocated Compiled → Type 0
 Calls b mask r = (t : Tables) → tooShort b t ≡ false → compileCall b mask t ≡ outcome (compiledAnswer r) (compiledTables r b t)
 
+-- what document 01 says of them
 pub record StarredKernels : Type 0 where
   pub a : Calls blockA 0xffff (allocated kernelA)
   pub c : Calls blockC 0xffff (allocated kernelC)

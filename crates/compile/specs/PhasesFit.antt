@@ -27,10 +27,12 @@ use Rattle.allocate.specs.Bounds.{count-le, run-bounds}
 use Rattle.compile.specs.Draft.{usable, usableBit, controlSetting, sampleSetting, draftOf, compilePlan, compileFlow, Draft}
 use Rattle.compile.specs.Gives.{usable-ascending}
 
+-- a usable register is below sixteen
 pub member-usable : (mask r : ℕ) → T (member r (usable mask)) → r < 16
 unfolding usable
 member-usable mask r t = omega (arith, count-up-below 0 16 r (filter-member (usableBit mask) (countUp 0 16) r t .0))
 
+-- sixteen at most are usable
 pub usable-sixteen : (mask : ℕ) → length (usable mask) ≤ 16
 unfolding usable
 usable-sixteen mask = omega (arith, filter-length (usableBit mask) (countUp 0 16), passing-le (usableBit mask) (countUp 0 16), count-up-length 0 16)
@@ -72,6 +74,7 @@ module _ (b : Flow) (v : GoodFlow b) where
             (and-both (getD (inv b v) n false) (isComputed (nodeAt (b .nodes) n)) (i .1) (and-second (getD (cneed b v) n false) (isComputed (nodeAt (b .nodes) n)) tp))),
       )
 
+  -- the control phase's run
   pub control-ran : (mask : ℕ)
       → Post (Unit {0}) (Ran (controlSetting b (planOf b) mask) (slots b v) (costs ((planOf b) .controlTasks)) (begin (controlSetting b (planOf b) mask))) (allocate (controlSetting b (planOf b) mask) ((planOf b) .controlTasks) (begin (controlSetting b (planOf b) mask)))
   unfolding planOf controlSetting
@@ -80,6 +83,7 @@ module _ (b : Flow) (v : GoodFlow b) where
       run-ran e (slots b v) (record { small = member-usable mask; ascending = usable-ascending mask }) (number-ok (homes b v)) (controlTasks (slots b v) (ccomps b v)) [] 0 (begin e)
       (control-tasks-ok b v (usable mask) (count (slots b v))) (begin-inv e (slots b v) _) (λ w q t. absurd (omega arith))
 
+  -- the sample phase's run
   pub sample-ran : (mask : ℕ)
       → Post (Unit {0}) (Ran (sampleSetting b (planOf b) mask) [] (costs ((planOf b) .sampleTasks)) (begin (sampleSetting b (planOf b) mask))) (allocate (sampleSetting b (planOf b) mask) ((planOf b) .sampleTasks) (begin (sampleSetting b (planOf b) mask)))
   unfolding planOf sampleSetting

@@ -68,6 +68,7 @@ module _ (g : Flow) (v : GoodFlow g) where
         sampleTasks = sym (sample-schedule g v) i;
       }
 
+  -- the Rust's plan is the plan
   pub plan-same : planRust g ≡ planOf g
   unfolding planRust
   plan-same = ap (planFrom g) (sym (sample-needed g v)) ∙ plan-fields

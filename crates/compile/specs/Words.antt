@@ -56,6 +56,7 @@ pub record Compiled : Type 0 where
   pub kernel : Kernel
   pub registers : ℕ
 
+-- a draft, written
 unfoldable pub compiledOf : Draft → Compiled
 compiledOf draft =
     let actions : List Action = draft .controlSteps ++ draft .sampleSteps in

@@ -40,6 +40,7 @@ nodeAs Tanh c x y = inputNode
 nodeAs Sigmoid c x y = inputNode
 nodeAs Unknown c x y = inputNode
 
+-- a node by its three words
 unfoldable pub nodeOf : ℕ → ℕ → ℕ → Node
 nodeOf c x y = nodeAs (kindOf c) c x y
 
@@ -59,14 +60,17 @@ flowOf g =
 
 -- ---- its nodes
 
+-- as many nodes as the graph counts
 pub flow-length : (g : Graph) → length (flowOf g .nodes) ≡ g .count
 unfolding flowOf
 flow-length g = length-map (countUp 0 (g .count)) (nodeIn (g .nodes)) ∙ count-up-length 0 (g .count)
 
+-- node n
 pub flow-at : (g : Graph) (n : ℕ) → n < g .count → nodeAt (flowOf g .nodes) n ≡ nodeIn (g .nodes) n
 unfolding flowOf
 flow-at g n h = let z : 0 + n ≡ n = omega arith in rw z at (map-at (nodeIn (g .nodes)) 0 (g .count) n inputNode h)
 
+-- past the nodes an input is read
 pub flow-off : (g : Graph) (n : ℕ) → g .count ≤ n → nodeAt (flowOf g .nodes) n ≡ inputNode
 unfolding flowOf
 flow-off g n h = map-off (nodeIn (g .nodes)) 0 (g .count) n inputNode h

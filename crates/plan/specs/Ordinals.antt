@@ -27,6 +27,7 @@ abbrev pub positions : ℕ → List ℕ → List ℕ → List ℕ
 positions k [] t = t
 positions k (n ∷ comps) t = positions (suc k) comps (set t n (suc k))
 
+-- one word in each of these places
 abbrev pub setEach : List ℕ → ℕ → List ℕ → List ℕ
 setEach [] x t = t
 setEach (a ∷ al) x t = setEach al x (set t a x)
@@ -48,6 +49,7 @@ module _ (ns : List Node) (ss : List Origin) (ws : List Write) (comps : List ℕ
       max (getD (positions 0 comps (replicate (length ns) 0)) (w .value) 0)
       (oldReads ss (w .code - 6) (w .index) (lastReads ns 0 comps (replicate (length ns) 0)) (countUp 0 (length ns)))
 
+  -- the computations from this ordinal on, each with the writes that come after it
   abbrev pub ordinalOps : ℕ → List ℕ → List Task
   ordinalOps k [] = []
   ordinalOps k (n ∷ rest) = computeTask n ∷ (tasksOf (filter (λ w. eqb (after w) (suc k)) ws) ++ ordinalOps (suc k) rest)

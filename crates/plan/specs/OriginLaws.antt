@@ -25,6 +25,7 @@ number-lt k (false ∷ fs) zero j h = absurd (omega arith)
 number-lt k (true ∷ fs) (suc n) j h = let r = number-lt (suc k) fs n j h in (r .0, omega (arith, r .1), omega (arith, r .2))
 number-lt k (false ∷ fs) (suc n) j h = number-lt k fs n j h
 
+-- no slot is two nodes'
 pub number-inj : (k : ℕ) (fs : List Bool) (n m j : ℕ) → getD (number k fs) n 0 ≡ suc j → getD (number k fs) m 0 ≡ suc j → n ≡ m
 number-inj k [] n m j h g = absurd (omega arith)
 number-inj k (true ∷ fs) zero zero j h g = refl
@@ -35,6 +36,7 @@ number-inj k (false ∷ fs) zero m j h g = absurd (omega arith)
 number-inj k (false ∷ fs) (suc n) zero j h g = absurd (omega arith)
 number-inj k (false ∷ fs) (suc n) (suc m) j h g = ap suc (number-inj k fs n m j h g)
 
+-- a flagged node has a slot
 pub number-some : (k : ℕ) (fs : List Bool) (n : ℕ) → T (getD fs n false) → (j : ℕ) × (getD (number k fs) n 0 ≡ suc j)
 number-some k [] n t = absurd t
 number-some k (true ∷ fs) zero t = (k, refl)
@@ -42,6 +44,7 @@ number-some k (false ∷ fs) zero t = absurd t
 number-some k (true ∷ fs) (suc n) t = number-some (suc k) fs n t
 number-some k (false ∷ fs) (suc n) t = number-some k fs n t
 
+-- a word for each flag
 pub number-length : (k : ℕ) (fs : List Bool) → length (number k fs) ≡ length fs
 number-length k [] = refl
 number-length k (true ∷ fs) = ap suc (number-length (suc k) fs)
@@ -49,16 +52,19 @@ number-length k (false ∷ fs) = ap suc (number-length k fs)
 
 -- ---- origins
 
+-- the origin of node n in the sample phase
 pub sample-at : (ks : List ℕ) (ns : List Node) (n : ℕ) → n < length ns → originAt (sampleOrigins ks ns) n ≡ sampleOrigin (getD ks n 0) (nodeAt ns n)
 sample-at ks [] n h = absurd (omega arith)
 sample-at ks (x ∷ xs) zero h = refl
 sample-at ks (x ∷ xs) (suc n) h =
     sample-at (drop 1 ks) xs n (omega arith) ∙ ap (λ (k : ℕ). sampleOrigin k (nodeAt xs n)) (getD-drop 1 ks n 0 ∙ ap (λ (i : ℕ). getD ks i 0) (omega arith))
 
+-- one for each node
 pub sample-length : (ks : List ℕ) (ns : List Node) → length (sampleOrigins ks ns) ≡ length ns
 sample-length ks [] = refl
 sample-length ks (x ∷ xs) = ap suc (sample-length (drop 1 ks) xs)
 
+-- what has none there has no control slot and is computed
 pub sample-none : (k : ℕ) (x : Node) → T (not (hasOrigin (sampleOrigin k x))) → (k ≡ 0) × T (isComputed x)
 unfolding sampleOrigin nodeOrigin
 sample-none zero inputNode t = absurd t
@@ -71,11 +77,13 @@ sample-none zero (binaryNode k a b) t = (refl, tt)
 sample-none zero (unaryNode k a) t = (refl, tt)
 sample-none (suc k) x t = absurd t
 
+-- the origin of node n in the control phase
 pub control-at : (ns : List Node) (n : ℕ) → n < length ns → originAt (map controlOrigin ns) n ≡ controlOrigin (nodeAt ns n)
 control-at [] n h = absurd (omega arith)
 control-at (x ∷ xs) zero h = refl
 control-at (x ∷ xs) (suc n) h = control-at xs n (omega arith)
 
+-- what is computed has none there
 pub control-computed : (x : Node) → T (isComputed x) → controlOrigin x ≡ noOrigin
 unfolding controlOrigin
 control-computed inputNode t = absurd t
@@ -99,11 +107,13 @@ control-leaf (delayNode i) gl t = absurd t
 control-leaf (binaryNode k a b) gl t = inl tt
 control-leaf (unaryNode k a) gl t = inl tt
 
+-- a node without an origin has `noOrigin`
 pub no-origin : (x : Origin) → hasOrigin x ≡ false → x ≡ noOrigin
 no-origin noOrigin h = refl
 no-origin (immediate b) h = absurd (false≢true (sym h))
 no-origin (loaded c i) h = absurd (false≢true (sym h))
 
+-- what passes as the load of a code and index is it
 pub is-load : (c i : ℕ) (x : Origin) → T (isLoad c i x) → x ≡ loaded c i
 is-load c i noOrigin t = absurd t
 is-load c i (immediate b) t = absurd t
@@ -112,6 +122,7 @@ is-load c i (loaded d j) t =
     let ij : i ≡ j = eqb→eq i j (and-second (eqb c d) (eqb i j) t) in
     rw (cd, ij)
 
+-- a node that has an origin is one of the nodes
 pub origin-inside : (ss : List Origin) (n : ℕ) → T (hasOrigin (originAt ss n)) → n < length ss
 origin-inside [] n t = absurd t
 origin-inside (x ∷ xs) zero t = omega arith
@@ -125,16 +136,19 @@ load-origin c i (loaded d j) t = tt
 
 -- ---- the first node of a source
 
+-- a load's source has a first node
 pub home-finds : (ss : List Origin) (c i n : ℕ) → n < length ss → T (isLoad c i (originAt ss n)) → (m : ℕ) × (homeOf ss c i ≡ suc m)
 unfolding homeOf
 home-finds ss c i n h t = first-finds (λ n. isLoad c i (originAt ss n)) (countUp 0 (length ss)) n (count-up-member 0 (length ss) n (omega arith) (omega arith)) t
 
+-- .. which is one of the nodes and has an origin
 pub home-known : (ss : List Origin) (c i n : ℕ) → homeOf ss c i ≡ suc n → (n < length ss) × T (hasOrigin (originAt ss n))
 unfolding homeOf
 home-known ss c i n h =
     let p : T (member n (countUp 0 (length ss))) × (isLoad c i (originAt ss n) ≡ true) = first-some (λ n. isLoad c i (originAt ss n)) (countUp 0 (length ss)) n h in
     (omega (arith, count-up-below 0 (length ss) n (p .0)), load-origin c i (originAt ss n) (rw (p .1) tt))
 
+-- .. which is that load
 pub home-origin : (ss : List Origin) (c i n : ℕ) → homeOf ss c i ≡ suc n → originAt ss n ≡ loaded c i
 unfolding homeOf
 home-origin ss c i n h = is-load c i (originAt ss n) (rw (first-some (λ n. isLoad c i (originAt ss n)) (countUp 0 (length ss)) n h .1) tt)
@@ -157,6 +171,7 @@ canonical-origin ss n h t = go (originAt ss n) refl
         let pm : pred (homeOf ss c i) ≡ f .0 = ap pred (f .1) ∙ omega arith in
         rw pm (home-known ss c i (f .0) (f .1))
 
+-- a computed node is its own
 pub canonical-computed : (ss : List Origin) (n : ℕ) → originAt ss n ≡ noOrigin → canonical ss n ≡ n
 unfolding canonical canonicalAs
 canonical-computed ss n h = rw h

@@ -17,6 +17,7 @@ use Rattle.plan.specs.TestLaws.{or-first, or-second, and-first, and-seco
 
 -- ---- marks
 
+-- marking keeps the number of flags
 pub length-markAll : (l : List ℕ) (m : List Bool) → length (markAll l m) ≡ length m
 length-markAll [] m = refl
 length-markAll (n ∷ ns) m = length-markAll ns (set m n true) ∙ length-set m n true
@@ -29,10 +30,12 @@ set-mark (x ∷ xs) zero (suc j) t = t
 set-mark (x ∷ xs) (suc n) zero t = t
 set-mark (x ∷ xs) (suc n) (suc j) t = set-mark xs n j t
 
+-- .. and every mark
 pub mark-mono : (l : List ℕ) (m : List Bool) (j : ℕ) → T (getD m j false) → T (getD (markAll l m) j false)
 mark-mono [] m j t = t
 mark-mono (n ∷ ns) m j t = mark-mono ns (set m n true) j (set-mark m n j t)
 
+-- what is listed is marked
 pub mark-in : (l : List ℕ) (m : List Bool) (j : ℕ) → T (member j l) → j < length m → T (getD (markAll l m) j false)
 mark-in [] m j t h = absurd t
 mark-in (n ∷ ns) m j t h = go (or-pass (eqb j n) (member j ns) t) (λ u. mark-in ns (set m n true) j u (rw length-set h))
@@ -65,11 +68,13 @@ module _ (ns : List Node) (down : ℕ → Bool) where
   abbrev stepm : ℕ → List Bool → List Bool
   stepm k m = markAll (cond (getD m k false && down k) (operands (nodeAt ns k)) []) m
 
+  -- the sweep keeps the number of flags
   pub length-sweep : (k : ℕ) (m : List Bool) → length (sweep ns down k m) ≡ length m
   unfolding sweep
   length-sweep zero m = refl
   length-sweep (suc k) m = length-sweep k (stepm k m) ∙ length-markAll (cond (getD m k false && down k) (operands (nodeAt ns k)) []) m
 
+  -- .. and every mark
   pub sweep-mono : (k : ℕ) (m : List Bool) (j : ℕ) → T (getD m j false) → T (getD (sweep ns down k m) j false)
   unfolding sweep
   sweep-mono zero m j t = t

@@ -240,6 +240,7 @@ module _ (ns : List Node) (down : ℕ → Bool) (ord : Ordered ns) where
           tk l n (inl u) = l .keeps n (rw (eqb→eq n x u) (set-hits seen x ls))
           tk l n (inr u) = l .takes n (member-right (backwards (next x)) pending n u)
 
+  -- flags that are set together are one table
   pub same-list : (xs ys : List Bool) → length xs ≡ length ys → ((n : ℕ) → T (getD xs n false) → T (getD ys n false))
       → ((n : ℕ) → T (getD ys n false) → T (getD xs n false)) → xs ≡ ys
   same-list [] [] l f g = refl
