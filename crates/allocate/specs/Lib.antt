@@ -19,9 +19,11 @@ pub mod Scheduled
 -- how many steps, slots and registers
 pub mod Costs
 pub mod Bounds
--- the Rust's own forms give the same: loops over every node, the pairs of `max_by_key`
-pub mod Canonical
-pub mod RustStores
+-- the Rust's own forms: definitions, and that they give the same: `reads` and `next`, the pairs of `max_by_key`, loops over every node
 pub mod RustAllocator
 pub mod RustReads
 pub mod RustKeys
+pub mod Canonical
+pub mod RustStores
+pub mod RustTwins
+pub mod RustSame

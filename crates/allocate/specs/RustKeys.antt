@@ -1,6 +1,5 @@
--- codegen.rs: `max_by_key` in `take` compares pairs, (needs no spill, the next read's position or the greatest number); the allocator's key orders registers as
--- these pairs do:
--- `key-order`; and the position is the one of the Rust's `reads` and `next`: `next-read-key`. Assumes nothing.
+-- codegen.rs: `max_by_key` in `take` compares pairs: whether a value needs no spill, then the position of its next read or the greatest number. The allocator's
+-- key orders registers as these pairs do: `key-order`. Assumes nothing.
 use mathlib.Core.Path.{_≡_, refl, sym, ap, _∙_}
 use mathlib.Core.Bool.{Bool, _||_, cond, false, true}
 use mathlib.Core.List.{List, [], _∷_, _++_}
@@ -11,20 +10,13 @@ use lib.Dec.{leb, leb→le, le→leb}
 use Rattle.plan.specs.Lists.{member}
 use Rattle.plan.specs.TestLaws.{same-test}
 use Rattle.allocate.specs.State.{State, ownerOf, reloadable}
-use Rattle.allocate.specs.RustReads.{readTable, advanceAll, nextReadIn, next-read-same}
 use Rattle.allocate.specs.Allocator.{distance, readLater, evictKey}
+use Rattle.allocate.specs.RustAllocator.{pairLe}
 
 -- codegen.rs: `next_read(node).unwrap_or(usize::MAX)`: the first op from position k on that reads node n, else `top`
 abbrev pub nextRead : ℕ → ℕ → List (List ℕ) → ℕ → ℕ
 nextRead top k [] n = top
 nextRead top k (r ∷ rs) n = cond (member n r) k (nextRead top (suc k) rs n)
-
--- pairs are compared by their first parts, then by their second
-abbrev pub pairLe : Bool → ℕ → Bool → ℕ → Bool
-pairLe true x true y = leb x y
-pairLe true x false y = false
-pairLe false x true y = true
-pairLe false x false y = leb x y
 
 -- the position, by the distance
 pub next-is : (top k : ℕ) (rs : List (List ℕ)) (n : ℕ) → nextRead top k rs n ≡ cond (readLater rs n) (k + distance rs n) top
@@ -96,21 +88,3 @@ key-order top k rest h s q r = go (reloadable s (pred (ownerOf s q))) (reloadabl
     go false true = leb-yes (0 + distance rest v) (suc (length rest) + distance rest w) (omega (arith, end rest v))
     go false false =
         let o = distance-order top k rest h v w in leb-same (0 + distance rest v) (0 + distance rest w) (nextRead top k rest v) (nextRead top k rest w) (λ l. o .0 (omega arith)) (λ l. omega (arith, o .1 l))
-
--- ---- the position is the one that the Rust's tables give
-
--- `unwrap_or`
-abbrev pub unwrapOr : ℕ → ℕ → ℕ
-unwrapOr top zero = top
-unwrapOr top (suc x) = x
-
--- what `next_read(node).unwrap_or(usize::MAX)` gives when the ops `done` are done
-pub next-read-key : (top nodes n : ℕ) (done rest : List (List ℕ)) → n < nodes
-    → let table : List (List ℕ) = readTable 0 (done ++ rest) (replicate nodes []) in
-    unwrapOr top (nextReadIn table (advanceAll 0 done table (replicate nodes 0)) n) ≡ nextRead top (length done) rest n
-next-read-key top nodes n done rest h =
-    ap (unwrapOr top) (next-read-same nodes n done rest h) ∙ (go (readLater rest n) ∙ sym (next-is top (length done) rest n))
-  where
-    go : (b : Bool) → unwrapOr top (cond b (suc (length done + distance rest n)) 0) ≡ cond b (length done + distance rest n) top
-    go true = refl
-    go false = refl

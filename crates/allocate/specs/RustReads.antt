@@ -1,61 +1,19 @@
--- codegen.rs: the allocator's `reads` and `next` as they are written, a list of positions for each node and an index into it, name the next read that
--- `distance` and `readLater` do: `next-read-same`. Assumes nothing.
+-- codegen.rs: `reads` and `next` name the next read that `distance` and `readLater` do: `left-start`, `left-next`, `left-agrees`. Assumes nothing.
 use mathlib.Core.Path.{_≡_, refl, sym, ap, _∙_}
 use mathlib.Core.Bool.{Bool, true, false, cond, _||_}
 use mathlib.Core.List.{List, [], _∷_, _++_, append-assoc, append-nil}
 use Prim.Native.Nat.{ℕ, zero, suc, _+_, _<_}
 use native.Mathlib.Omega.{arith}
-use native.Mathlib.Decide.{ℕ-discrete}
-use lib.ListN.{length, getD, set, drop, replicate, length-set, length-replicate}
-use lib.Seq.{getD-set-same, getD-set-other, drop-drop}
-use lib.Dec.{eqb, leb}
+use native.Mathlib.Decide.{ℕ-discrete, decLt}
+use lib.ListN.{List·getD-eq-default, length, getD, set, drop, replicate, length-set, length-replicate}
+use lib.Seq.{getD-set-same, getD-set-other, drop-drop, drop-nil}
+use lib.Dec.{T, eqb, leb}
 use borrow.Author.Tests.{ne-eqb, eq-eqb, le-leb, lt-leb}
-use Rattle.tables.specs.Tests.{neither}
+use Rattle.tables.specs.Tests.{neither, is-false}
 use Rattle.tables.specs.Zeros.{zeros-at}
 use Rattle.plan.specs.Lists.{member}
 use Rattle.allocate.specs.Allocator.{distance, readLater}
-
--- ---- the Rust's tables
-
--- `reads[node].push(position)`
-abbrev pub push : ℕ → ℕ → List (List ℕ) → List (List ℕ)
-push position n table = set table n (getD table n [] ++ (position ∷ []))
-
--- .. for each node that the op at this position reads
-abbrev pub pushAll : ℕ → List ℕ → List (List ℕ) → List (List ℕ)
-pushAll position [] table = table
-pushAll position (n ∷ reads) table = pushAll position reads (push position n table)
-
--- .. for each op from this position on: the loop of `Allocator::new`
-abbrev pub readTable : ℕ → List (List ℕ) → List (List ℕ) → List (List ℕ)
-readTable position [] table = table
-readTable position (reads ∷ rest) table = readTable (suc position) rest (pushAll position reads table)
-
--- `get`: element i, if there is one
-abbrev pub elementAt : List ℕ → ℕ → ℕ
-elementAt [] i = 0
-elementAt (x ∷ xs) zero = suc x
-elementAt (x ∷ xs) (suc i) = elementAt xs i
-
--- `next_read`
-abbrev pub nextReadIn : List (List ℕ) → List ℕ → ℕ → ℕ
-nextReadIn table next n = elementAt (getD table n []) (getD next n 0)
-
--- how many of the first positions are at or before this one: the turns of the `while` in `run`
-abbrev pub passed : ℕ → List ℕ → ℕ
-passed position [] = 0
-passed position (x ∷ xs) = cond (leb x position) (suc (passed position xs)) 0
-
--- `next` after the op at this position, which reads these nodes
-abbrev pub advance : ℕ → List ℕ → List (List ℕ) → List ℕ → List ℕ
-advance position [] table next = next
-advance position (n ∷ reads) table next =
-    advance position reads table (set next n (getD next n 0 + passed position (drop (getD next n 0) (getD table n []))))
-
--- .. and after all ops so far, from this position on
-abbrev pub advanceAll : ℕ → List (List ℕ) → List (List ℕ) → List ℕ → List ℕ
-advanceAll position [] table next = next
-advanceAll position (reads ∷ done) table next = advanceAll (suc position) done table (advance position reads table next)
+use Rattle.allocate.specs.RustAllocator.{push, pushAll, readTable, elementAt, nextReadIn, passed, advance}
 
 -- ---- the table holds every node's positions
 
@@ -81,6 +39,10 @@ push-at k (x ∷ xs) table n h = push-at k xs (push k x table) n (rw length-set 
         let s : getD (push k x table) n [] ≡ getD table n [] ++ (k ∷ []) = rw (← e) (getD-set-same table n (getD table n [] ++ (k ∷ [])) [] h) in
         rw (s, eq-eqb n x e) (append-assoc (getD table n []) (k ∷ []) (here k xs n))
     go (no e) = rw (getD-set-other table x n (getD table x [] ++ (k ∷ [])) [] e, ne-eqb n x e)
+
+pub table-length : (k : ℕ) (rest table : List (List ℕ)) → length (readTable k rest table) ≡ length table
+table-length k [] table = refl
+table-length k (r ∷ rest) table = table-length (suc k) rest (pushAll k r table) ∙ push-length k r table
 
 table-at : (k : ℕ) (rest : List (List ℕ)) (table : List (List ℕ)) (n : ℕ) → n < length table
     → getD (readTable k rest table) n [] ≡ getD table n [] ++ positions k rest n
@@ -126,7 +88,7 @@ advance-at k (x ∷ xs) table next n h = advance-at k xs table after n (rw lengt
         let s : getD after n 0 ≡ getD next n 0 = getD-set-other next x n (getD next x 0 + passed k (drop (getD next x 0) (getD table x []))) 0 e in
         rw (s, ne-eqb n x e)
 
-advance-length : (k : ℕ) (reads : List ℕ) (table : List (List ℕ)) (next : List ℕ) → length (advance k reads table next) ≡ length next
+pub advance-length : (k : ℕ) (reads : List ℕ) (table : List (List ℕ)) (next : List ℕ) → length (advance k reads table next) ≡ length next
 advance-length k [] table next = refl
 advance-length k (x ∷ xs) table next =
     advance-length k xs table (set next x (getD next x 0 + passed k (drop (getD next x 0) (getD table x []))))
@@ -169,13 +131,10 @@ one-on k reads rest table next n h e = advance-at k reads table next n h ∙ rw 
     go true q = passed-here k reads (positions (suc k) rest n) n (not-passed k (suc k) rest n (omega arith))
     go false q = rw (none-here k reads n q)
 
-all-on : (k : ℕ) (done rest table : List (List ℕ)) (next : List ℕ) (n : ℕ) → n < length next
-    → drop (getD next n 0) (getD table n []) ≡ positions k (done ++ rest) n
-    → drop (getD (advanceAll k done table next) n 0) (getD table n []) ≡ positions (k + length done) rest n
-all-on k [] rest table next n h e = let z : k + 0 ≡ k = omega arith in rw z e
-all-on k (r ∷ done) rest table next n h e =
-    let z : k + suc (length done) ≡ suc k + length done = omega arith in
-    rw z (all-on (suc k) done rest table (advance k r table next) n (rw (advance-length k r table next) h) (one-on k r (done ++ rest) table next n h e))
+-- a node that is not read has none left
+none-left : (k : ℕ) (rest : List (List ℕ)) (n : ℕ) → readLater rest n ≡ false → positions k rest n ≡ []
+none-left k [] n h = refl
+none-left k (r ∷ rest) n h = let p = neither (member n r) (readLater rest n) h in rw (none-here k r n (p .0)) (none-left (suc k) rest n (p .1))
 
 -- ---- the next read
 
@@ -206,28 +165,51 @@ first-position k (r ∷ rest) n = go r (first-position (suc k) rest n)
         two true h = omega arith
         two false h = h
 
--- WHEN THE OPS `done` ARE DONE, the Rust's next read of node n, of `nodes` nodes, is the first position from there on whose op reads it; there is one exactly
--- where the node is read later. Before `next` is advanced for the op at hand, `done` are those before it and `rest` begins with its own reads; afterwards it is
--- among `done`
-pub next-read-same : (nodes n : ℕ) (done rest : List (List ℕ)) → n < nodes
-    → let table : List (List ℕ) = readTable 0 (done ++ rest) (replicate nodes []) in
-    nextReadIn table (advanceAll 0 done table (replicate nodes 0)) n ≡ cond (readLater rest n) (suc (length done + distance rest n)) 0
-next-read-same nodes n done rest h =
-    let table : List (List ℕ) = readTable 0 (done ++ rest) (replicate nodes []) in
-    let next : List ℕ = replicate nodes 0 in
-    let ln : n < length next = rw (length-replicate {A = ℕ} nodes 0) h in
-    let lt : n < length (replicate nodes (the-empty)) = rw (length-replicate nodes the-empty) h in
-    let zero-next : getD next n 0 ≡ 0 = zeros-at nodes n in
-    let at : getD table n [] ≡ positions 0 (done ++ rest) n = table-at 0 (done ++ rest) (replicate nodes []) n lt ∙ ap (λ (l : List ℕ). l ++ positions 0 (done ++ rest) n) (empties-at nodes n) in
-    let left : drop (getD next n 0) (getD table n []) ≡ positions 0 (done ++ rest) n = rw zero-next at in
-    let z : 0 + length done ≡ length done = omega arith in
-    element-drop (getD table n []) (getD (advanceAll 0 done table next) n 0)
-    ∙ (ap (λ (l : List ℕ). elementAt l 0) (all-on 0 done rest table next n ln left ∙ ap (λ (k : ℕ). positions k rest n) z) ∙ first-position (length done) rest n)
-  where
-    the-empty : List ℕ
-    the-empty = []
+-- ---- THE INVARIANT: at position k, what is left of each node's positions are those of the ops to come
 
-    empties-at : (m i : ℕ) → getD (replicate m the-empty) i the-empty ≡ the-empty
+abbrev pub Left : ℕ → List (List ℕ) → List (List ℕ) → List ℕ → Type 0
+Left k rest table indices = (n : ℕ) → drop (getD indices n 0) (getD table n []) ≡ positions k rest n
+
+-- at the start, where only nodes are read
+pub left-start : (nodes : ℕ) (rest : List (List ℕ)) → ((n : ℕ) → T (readLater rest n) → n < nodes)
+    → Left 0 rest (readTable 0 rest (replicate nodes [])) (replicate nodes 0)
+left-start nodes rest inside n = rw (zeros-at nodes n) (go (decLt n nodes))
+  where
+    empty : List ℕ
+    empty = []
+
+    empties-at : (m i : ℕ) → getD (replicate m empty) i empty ≡ empty
     empties-at zero i = refl
     empties-at (suc m) zero = refl
     empties-at (suc m) (suc i) = empties-at m i
+
+    go : Dec (n < nodes) → getD (readTable 0 rest (replicate nodes [])) n [] ≡ positions 0 rest n
+    go (yes h) =
+        table-at 0 rest (replicate nodes []) n (rw (length-replicate nodes empty) h) ∙ ap (λ (l : List ℕ). l ++ positions 0 rest n) (empties-at nodes n)
+    go (no h) =
+        List·getD-eq-default (readTable 0 rest (replicate nodes [])) [] {n = n} (omega (arith, table-length 0 rest (replicate nodes empty), length-replicate nodes empty))
+        ∙ sym (none-left 0 rest n (is-false (readLater rest n) (λ t. h (inside n t))))
+
+nothing : (xs ys : List ℕ) → [] ≡ xs ++ ys → [] ≡ ys
+nothing [] ys h = h
+nothing (x ∷ xs) ys h = let z : _≡_ {A = ℕ} 0 1 = cc in absurd (omega arith)
+
+-- one op on
+pub left-next : (k : ℕ) (reads : List ℕ) (rest table : List (List ℕ)) (indices : List ℕ) → length table ≡ length indices
+    → Left k (reads ∷ rest) table indices → Left (suc k) rest table (advance k reads table indices)
+left-next k reads rest table indices same left n = go (decLt n (length indices))
+  where
+    go : Dec (n < length indices) → drop (getD (advance k reads table indices) n 0) (getD table n []) ≡ positions (suc k) rest n
+    go (yes h) = one-on k reads rest table indices n h (left n)
+    go (no h) =
+        let e : getD table n [] ≡ [] = List·getD-eq-default table [] {n = n} (omega arith) in
+        let l : [] ≡ here k reads n ++ positions (suc k) rest n = sym (rw e (drop-nil (getD indices n 0))) ∙ left n in
+        rw e (drop-nil (getD (advance k reads table indices) n 0)) ∙ nothing (here k reads n) (positions (suc k) rest n) l
+
+-- so the Rust's next read is the first op to come that reads the node
+abbrev pub Agrees : (ℕ → ℕ) → ℕ → List (List ℕ) → Type 0
+Agrees next k rest = (n : ℕ) → next n ≡ cond (readLater rest n) (suc (k + distance rest n)) 0
+
+pub left-agrees : (k : ℕ) (rest table : List (List ℕ)) (indices : List ℕ) → Left k rest table indices → Agrees (nextReadIn table indices) k rest
+left-agrees k rest table indices left n =
+    element-drop (getD table n []) (getD indices n 0) ∙ (ap (λ (l : List ℕ). elementAt l 0) (left n) ∙ first-position k rest n)

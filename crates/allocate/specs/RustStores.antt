@@ -19,6 +19,7 @@ use Rattle.plan.specs.TestLaws.{or-first, or-second, and-both}
 use Rattle.plan.specs.OriginLaws.{home-known, is-load, home-origin}
 use Rattle.allocate.specs.State.{Allocated, allocated, allLocked, andThen, Setting, State, Taken, isFresh, stale}
 use Rattle.allocate.specs.Allocator.{readLater, fetch, preserveIf, preserve, readsOf}
+use Rattle.allocate.specs.RustAllocator.{hideLoads}
 use Rattle.allocate.specs.Canonical.{Canonical, off-at, reads-canonical}
 
 -- ---- `preserve`
@@ -109,12 +110,6 @@ module _ (e : Setting) (rest : List (List ℕ)) (own : OwnReads e rest) (c i : �
       go (suc n) q = finds-home n q 0 (length (e .origins)) locked s (omega arith) (omega (arith, home-known (e .origins) c i n q .0))
 
 -- ---- the loop after a store
-
--- every node whose value is the load of code c and index i is fresh no more
-abbrev pub hideLoads : ℕ → ℕ → List Origin → List Bool → List Bool
-hideLoads c i xs [] = []
-hideLoads c i [] (f ∷ fs) = f ∷ fs
-hideLoads c i (x ∷ xs) (f ∷ fs) = cond (isLoad c i x) false f ∷ hideLoads c i xs fs
 
 -- flag m afterwards
 pub hide-at : (c i : ℕ) (xs : List Origin) (fs : List Bool) (m : ℕ) → getD (hideLoads c i xs fs) m false ≡ cond (isLoad c i (originAt xs m)) false (getD fs m false)

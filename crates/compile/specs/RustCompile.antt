@@ -16,36 +16,13 @@ use Rattle.plan.specs.Hoist.{invariants, number, hoistable, neededBy, homesOf, 
 use Rattle.plan.specs.Origins.{Origin, controlOrigin, sampleOrigins}
 use Rattle.plan.specs.Schedule.{Plan, planOf, controlTasks, sampleComputations, writes}
 use Rattle.plan.specs.Planned.{GoodFlow, inv, need, homes, slots, ss, cs, cneed, ccomps}
-use Rattle.plan.specs.Worklist.{reachable}
-use Rattle.plan.specs.Ordinals.{ordinalSchedule}
-use Rattle.plan.specs.RustPlan.{sample-needed, control-needed, sample-schedule}
+use Rattle.plan.specs.RustPlan.{planRust}
+use Rattle.plan.specs.PlanSame.{plan-same}
 use Rattle.allocate.specs.State.{Allocated, allocated, allLocked, andThen, Setting, State, begin}
 use Rattle.allocate.specs.Allocator.{allocate}
 use Rattle.allocate.specs.Scheduled.{settingOf, sample-tasks-ok, control-tasks-ok}
-use Rattle.allocate.specs.RustAllocator.{allocateAll, withFresh, Alike, allocate-same}
+use Rattle.allocate.specs.RustTwins.{allocateAll, withFresh, Alike, allocate-same}
 use Rattle.compile.specs.Draft.{Draft, usable, controlSetting, sampleSetting, draftOf, compilePlan, compileFlow}
-
--- the plan, from what the sample phase reaches
-abbrev planFrom : Flow → List Bool → Plan
-planFrom g need =
-    let ns : List Node = g .nodes in
-    let inv : List Bool = invariants ns [] in
-    let homes : List Bool = homesOf ns inv need in
-    let slots : List ℕ = number 0 homes in
-    let cneed : List Bool = reachable ns (filter (λ n. getD homes n false) (countUp 0 (length ns))) (λ n. true) in
-    let ss : List Origin = sampleOrigins slots ns in
-    record {
-      slots = slots;
-      fixed = count slots;
-      controlOrigins = map controlOrigin ns;
-      controlTasks = controlTasks slots (controlComputations ns cneed);
-      sampleOrigins = ss;
-      sampleTasks = ordinalSchedule ns ss (writes g) (sampleComputations ns need ss) (g .output);
-    }
-
--- codegen.rs: `compile_with`, up to the allocator
-unfoldable pub planRust : Flow → Plan
-planRust g = planFrom g (reachable (g .nodes) (roots g) (λ n. not (hoistable (g .nodes) (invariants (g .nodes) []) n)))
 
 -- codegen.rs: `compile_with`
 unfoldable pub compileRust : Flow → ℕ → Allocated Draft
@@ -55,24 +32,6 @@ compileRust g mask =
     (λ c. andThen (allocateAll (sampleSetting g p mask) (p .sampleTasks) (begin (sampleSetting g p mask))) (λ s. allocated (draftOf c s)))
 
 module _ (g : Flow) (v : GoodFlow g) where
-  plan-fields : planFrom g (neededBy g (inv g v)) ≡ planOf g
-  unfolding planOf
-  plan-fields =
-      λ i.
-      record {
-        slots = slots g v;
-        fixed = count (slots g v);
-        controlOrigins = map controlOrigin (g .nodes);
-        controlTasks = controlTasks (slots g v) (controlComputations (g .nodes) (sym (control-needed g v) i));
-        sampleOrigins = ss g v;
-        sampleTasks = sym (sample-schedule g v) i;
-      }
-
-  -- the Rust's plan is the plan
-  pub plan-same : planRust g ≡ planOf g
-  unfolding planRust
-  plan-same = ap (planFrom g) (sym (sample-needed g v)) ∙ plan-fields
-
   control-alike : (mask : ℕ)
       → let e : Setting = controlSetting g (planOf g) mask in Alike e (allocate e ((planOf g) .controlTasks) (begin e)) (allocateAll e ((planOf g) .controlTasks) (begin e))
   unfolding controlSetting planOf

@@ -14,7 +14,8 @@ pub mod Reached
 pub mod Planned
 -- the expanded block as a flow: `flowOf`, and that a good graph's flow is good
 pub mod Flow
--- the Rust's own forms give the same: a stack for `reachable`, ordinals for `sample_schedule`
+-- the Rust's own forms: definitions, and that they give the same plan
+pub mod RustPlan
 pub mod Worklist
 pub mod Ordinals
-pub mod RustPlan
+pub mod PlanSame

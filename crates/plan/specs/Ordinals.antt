@@ -1,4 +1,4 @@
--- codegen.rs: `sample_schedule` as it is written, with its tables of ordinals, gives the same tasks as the schedule. Assumes nothing.
+-- codegen.rs: `sample_schedule` with its tables of ordinals gives the same tasks as the schedule: `ordinals-same`. Assumes nothing.
 use mathlib.Core.Path.{_∙_, _≡_, ap, refl, subst, sym}
 use mathlib.Core.Bool.{Bool, _&&_, _||_, cond, false, not, true}
 use mathlib.Core.List.{List, [], _++_, _∷_}
@@ -15,48 +15,11 @@ use Rattle.plan.specs.Lists.{member, filter, anyOf, countUp}
 use Rattle.plan.specs.Nodes.{Node, operands, nodeAt}
 use Rattle.plan.specs.Origins.{Origin, isLoad, originAt}
 use Rattle.plan.specs.Schedule.{Task, computeTask, storeTask, Write, waits, tasksOf, scheduleFrom, schedule}
+use Rattle.plan.specs.RustPlan.{positions, setEach, lastReads, oldReads, after, ordinalTasks, ordinalSchedule}
 use Rattle.plan.specs.TestLaws.{or-first, or-second, and-first, and-second, and-both, same-test}
 use Rattle.plan.specs.ListLaws.{count-up-member, count-up-below, any-at, any-is}
 use Rattle.plan.specs.Planned.{AllWrites}
 use Rattle.plan.specs.OriginLaws.{load-origin, origin-inside}
-
--- ---- the Rust's tables
-
--- `position[index] = Some(ordinal)`, for each computation in order
-abbrev pub positions : ℕ → List ℕ → List ℕ → List ℕ
-positions k [] t = t
-positions k (n ∷ comps) t = positions (suc k) comps (set t n (suc k))
-
--- one word in each of these places
-abbrev pub setEach : List ℕ → ℕ → List ℕ → List ℕ
-setEach [] x t = t
-setEach (a ∷ al) x t = setEach al x (set t a x)
-
--- `last_read[operand] = Some(ordinal)`, for each operand of each computation in order
-abbrev pub lastReads : List Node → ℕ → List ℕ → List ℕ → List ℕ
-lastReads ns k [] t = t
-lastReads ns k (n ∷ comps) t = lastReads ns (suc k) comps (setEach (operands (nodeAt ns n)) (suc k) t)
-
--- `old_reads`: the latest of the last reads of the nodes that load this memory
-abbrev pub oldReads : List Origin → ℕ → ℕ → List ℕ → List ℕ → ℕ
-oldReads ss c i last [] = 0
-oldReads ss c i last (a ∷ al) = max (cond (isLoad c i (originAt ss a)) (getD last a 0) 0) (oldReads ss c i last al)
-
-module _ (ns : List Node) (ss : List Origin) (ws : List Write) (comps : List ℕ) where
-  -- `after`: 0, or 1 + the ordinal of the computation after which the write comes
-  abbrev pub after : Write → ℕ
-  after w =
-      max (getD (positions 0 comps (replicate (length ns) 0)) (w .value) 0)
-      (oldReads ss (w .code - 6) (w .index) (lastReads ns 0 comps (replicate (length ns) 0)) (countUp 0 (length ns)))
-
-  -- the computations from this ordinal on, each with the writes that come after it
-  abbrev pub ordinalOps : ℕ → List ℕ → List Task
-  ordinalOps k [] = []
-  ordinalOps k (n ∷ rest) = computeTask n ∷ (tasksOf (filter (λ w. eqb (after w) (suc k)) ws) ++ ordinalOps (suc k) rest)
-
-  -- `sample_schedule`
-  abbrev pub ordinalSchedule : ℕ → List Task
-  ordinalSchedule out = tasksOf (filter (λ w. eqb (after w) 0) ws) ++ (ordinalOps 0 comps ++ (storeTask 12 0 out ∷ []))
 
 -- ---- the last ordinal at which a test holds
 
@@ -284,7 +247,7 @@ comes-first p comps = go (anyOf p comps) refl
     go false q = rw (last-none p 0 comps q)
 
 module _ (ns : List Node) (ss : List Origin) (len : length ss ≡ length ns) (ws : List Write) (inside : AllWrites (λ w. w .value < length ns) ws) where
-  ops-same : (done rest : List ℕ) → ordinalOps ns ss ws (done ++ rest) (length done) rest ≡ scheduleFrom ns ss ws rest
+  ops-same : (done rest : List ℕ) → ordinalTasks ns ss ws (done ++ rest) (length done) rest ≡ scheduleFrom ns ss ws rest
   unfolding scheduleFrom
   ops-same done [] = refl
   ops-same done (n ∷ rest) =
@@ -292,9 +255,9 @@ module _ (ns : List Node) (ss : List Origin) (len : length ss ≡ length ns) (ws
       let f = filter-ext (λ w. w .value < length ns) (λ w. eqb (after ns ss ws comps w) (suc (length done))) (λ w. waits ns ss w n && not (anyOf (waits ns ss w) rest)) ws inside (λ w l.
       ap (λ (x : ℕ). eqb x (suc (length done))) (after-is ns ss len comps ws w l) ∙ comes-here (waits ns ss w) done n rest) in
       let e : length (done ++ (n ∷ [])) ≡ suc (length done) = length-append done (n ∷ []) ∙ omega arith in
-      let ih : ordinalOps ns ss ws comps (suc (length done)) rest ≡ scheduleFrom ns ss ws rest =
-      subst (λ (k : ℕ). ordinalOps ns ss ws comps k rest ≡ scheduleFrom ns ss ws rest) e
-      (subst (λ (l : List ℕ). ordinalOps ns ss ws l (length (done ++ (n ∷ []))) rest ≡ scheduleFrom ns ss ws rest) (append-snoc done n rest) (ops-same (done ++ (n ∷ [])) rest)) in
+      let ih : ordinalTasks ns ss ws comps (suc (length done)) rest ≡ scheduleFrom ns ss ws rest =
+      subst (λ (k : ℕ). ordinalTasks ns ss ws comps k rest ≡ scheduleFrom ns ss ws rest) e
+      (subst (λ (l : List ℕ). ordinalTasks ns ss ws l (length (done ++ (n ∷ []))) rest ≡ scheduleFrom ns ss ws rest) (append-snoc done n rest) (ops-same (done ++ (n ∷ [])) rest)) in
       λ i. computeTask n ∷ (tasksOf (f i) ++ ih i)
 
   -- `sample_schedule` is the schedule

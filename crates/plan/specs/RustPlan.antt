@@ -1,83 +1,97 @@
--- The plan in the Rust's own forms: `reachable` with its stack for both phases, `sample_schedule` with its ordinals. Assumes nothing.
-use mathlib.Core.Path.{_∙_, _≡_, ap, sym}
-use mathlib.Core.Logic.{_⊎_, inl, inr}
-use mathlib.Core.Bool.{false, not, true}
-use mathlib.Core.List.{List, [], _++_, _∷_}
-use Prim.Native.Nat.{_<_, suc, zero, ℕ}
-use native.Mathlib.Omega.{arith}
-use lib.ListN.{getD, length, length-replicate, replicate}
-use lib.Dec.{T, eqb, eqb-refl, eqb→eq}
-use Rattle.tables.specs.Tests.{or-pass}
-use Rattle.plan.specs.Lists.{member, filter, countUp}
-use Rattle.plan.specs.Nodes.{Flow, updatesOf, roots}
-use Rattle.plan.specs.Hoist.{markAll, sweep, hoistable, neededBy}
-use Rattle.plan.specs.Schedule.{writesFrom, writes, planOf}
-use Rattle.plan.specs.TestLaws.{or-first, or-second}
-use Rattle.plan.specs.ListLaws.{filter-member, count-up-below, flag-inside, count-up-member, member-filter, member-append, none-seen}
-use Rattle.plan.specs.Reached.{mark-in, mark-inv, length-markAll}
-use Rattle.plan.specs.Planned.{GoodFlow, AllWrites, all-append, homes-length, inv, homes, slots, ss, cneed, comps}
-use Rattle.plan.specs.OriginLaws.{sample-length}
-use Rattle.plan.specs.Ordinals.{ordinalSchedule, ordinals-same}
-use Rattle.plan.specs.Worklist.{reachable, reachable-same, same-list}
+-- codegen.rs: `compile_with` up to the allocator in its own forms: `reachable` with a stack of pending nodes, `sample_schedule` with tables of ordinals. That
+-- it gives the plan is in PlanSame. Definitions alone.
+use mathlib.Core.Bool.{Bool, true, false, not, cond}
+use mathlib.Core.List.{List, [], _∷_, _++_, map}
+use Prim.Native.Nat.{ℕ, zero, suc, _+_, _-_, _*_, max}
+use lib.ListN.{length, getD, set, replicate}
+use lib.Dec.{eqb}
+use Rattle.plan.specs.Lists.{filter, countUp, count}
+use Rattle.plan.specs.Nodes.{Node, Flow, operands, nodeAt, roots}
+use Rattle.plan.specs.Hoist.{invariants, number, hoistable, homesOf, controlComputations}
+use Rattle.plan.specs.Origins.{Origin, controlOrigin, sampleOrigins, isLoad, originAt}
+use Rattle.plan.specs.Schedule.{Task, computeTask, storeTask, controlTasks, Write, writes, tasksOf, sampleComputations, Plan}
 
-module _ (g : Flow) (v : GoodFlow g) where
-  root-in : (n : ℕ) → T (member n (roots g)) → n < length (g .nodes)
-  unfolding roots
-  root-in n t = go (or-pass (eqb n (g .output)) (member n (updatesOf (g .states) ++ updatesOf (g .delays))) t)
-    where
-      up : T (member n (updatesOf (g .states))) ⊎ T (member n (updatesOf (g .delays))) → n < length (g .nodes)
-      up (inl u) = v .ups n u
-      up (inr u) = v .dels n u
+-- ---- `reachable`
 
-      go : T (eqb n (g .output)) ⊎ T (member n (updatesOf (g .states) ++ updatesOf (g .delays))) → n < length (g .nodes)
-      go (inl u) = let z : n ≡ g .output = eqb→eq n (g .output) u in omega (arith, v .out)
-      go (inr u) = up (member-append (updatesOf (g .states)) (updatesOf (g .delays)) n u)
+-- the other way round: a stack's top is its last element in the Rust, its first here
+abbrev pub backwards : List ℕ → List ℕ
+backwards [] = []
+backwards (x ∷ xs) = backwards xs ++ (x ∷ [])
 
-  -- `sample_needed`
-  pub sample-needed : neededBy g (inv g v) ≡ reachable (g .nodes) (roots g) (λ n. not (hoistable (g .nodes) (inv g v) n))
-  unfolding neededBy
-  sample-needed = sym (reachable-same (g .nodes) (λ n. not (hoistable (g .nodes) (inv g v) n)) (v .ord) (roots g) root-in)
+-- the `while let` loop over the pending nodes, with as many turns as it may take
+abbrev pub turns : List Node → (ℕ → Bool) → ℕ → List Bool → List ℕ → List Bool
+turns nodes descend zero seen pending = seen
+turns nodes descend (suc left) seen [] = seen
+turns nodes descend (suc left) seen (n ∷ pending) =
+    cond (getD seen n false) (turns nodes descend left seen pending)
+    (turns nodes descend left (set seen n true) (backwards (cond (descend n) (operands (nodeAt nodes n)) []) ++ pending))
 
-  -- `control_roots`: the nodes that get a control slot, in order
-  abbrev pub controlRoots : List ℕ
-  controlRoots = filter (λ n. getD (homes g v) n false) (countUp 0 (length (g .nodes)))
+-- each node is entered once and pushes two at most
+abbrev pub reachable : List Node → List ℕ → (ℕ → Bool) → List Bool
+reachable nodes from descend = turns nodes descend (2 * length nodes + length from) (replicate (length nodes) false) (backwards from)
 
-  roots-in : (n : ℕ) → T (member n controlRoots) → n < length (g .nodes)
-  roots-in n t = omega (arith, count-up-below 0 (length (g .nodes)) n (filter-member (λ n. getD (homes g v) n false) (countUp 0 (length (g .nodes))) n t .0))
+-- ---- `sample_schedule`
 
-  -- marking them gives their flags
-  marked : markAll controlRoots (replicate (length (g .nodes)) false) ≡ homes g v
-  marked =
-      same-list (g .nodes) (λ n. true) (v .ord) (markAll controlRoots (replicate (length (g .nodes)) false)) (homes g v)
-      (length-markAll controlRoots (replicate (length (g .nodes)) false) ∙ (length-replicate (length (g .nodes)) false ∙ sym (homes-length g v)))
-      (λ n t. from n (mark-inv controlRoots (replicate (length (g .nodes)) false) n t))
-      (λ n t.
-      let l : n < length (g .nodes) = omega (arith, flag-inside (homes g v) n t, homes-length g v) in
-      mark-in controlRoots (replicate (length (g .nodes)) false) n
-      (member-filter (λ n. getD (homes g v) n false) (countUp 0 (length (g .nodes))) n (count-up-member 0 (length (g .nodes)) n (omega arith) (omega arith)) t)
-      (rw (length-replicate (length (g .nodes)) false) l))
-    where
-      from : (n : ℕ) → T (member n controlRoots) ⊎ T (getD (replicate (length (g .nodes)) false) n false) → T (getD (homes g v) n false)
-      from n (inl u) = filter-member (λ n. getD (homes g v) n false) (countUp 0 (length (g .nodes))) n u .1
-      from n (inr u) = absurd (rw (none-seen (length (g .nodes)) n) at u)
+-- `position[index] = Some(ordinal)`, for each computation in order
+abbrev pub positions : ℕ → List ℕ → List ℕ → List ℕ
+positions ordinal [] table = table
+positions ordinal (n ∷ computations) table = positions (suc ordinal) computations (set table n (suc ordinal))
 
-  -- `control_needed`
-  pub control-needed : cneed g v ≡ reachable (g .nodes) controlRoots (λ n. true)
-  control-needed = sym (reachable-same (g .nodes) (λ n. true) (v .ord) controlRoots roots-in ∙ ap (sweep (g .nodes) (λ n. true) (length (g .nodes))) marked)
+-- one word in each of these places
+abbrev pub setEach : List ℕ → ℕ → List ℕ → List ℕ
+setEach [] word table = table
+setEach (n ∷ places) word table = setEach places word (set table n word)
 
-  values-in : (c k : ℕ) (us : List ℕ) → ((n : ℕ) → T (member n (updatesOf us)) → n < length (g .nodes))
-      → AllWrites (λ w. w .value < length (g .nodes)) (writesFrom c k us)
-  values-in c k [] h = tt
-  values-in c k (zero ∷ us) h = values-in c (suc k) us h
-  values-in c k (suc n ∷ us) h =
-      (h n (or-first (eqb n n) (member n (updatesOf us)) (eqb-refl n)), values-in c (suc k) us (λ m t. h m (or-second (eqb m n) (member m (updatesOf us)) t)))
+-- `last_read[operand] = Some(ordinal)`, for each operand of each computation in order
+abbrev pub lastReads : List Node → ℕ → List ℕ → List ℕ → List ℕ
+lastReads nodes ordinal [] table = table
+lastReads nodes ordinal (n ∷ computations) table =
+    lastReads nodes (suc ordinal) computations (setEach (operands (nodeAt nodes n)) (suc ordinal) table)
 
-  all-inside : AllWrites (λ w. w .value < length (g .nodes)) (writes g)
-  unfolding writes
-  all-inside =
-      all-append g v (λ w. w .value < length (g .nodes)) (writesFrom 10 0 (g .states)) (writesFrom 11 0 (g .delays)) (values-in 10 0 (g .states) (v .ups)) (values-in 11 0 (g .delays) (v .dels))
+-- `old_reads`: the latest of the last reads of the nodes that load this memory
+abbrev pub oldReads : List Origin → ℕ → ℕ → List ℕ → List ℕ → ℕ
+oldReads origins code index last [] = 0
+oldReads origins code index last (n ∷ nodes) =
+    max (cond (isLoad code index (originAt origins n)) (getD last n 0) 0) (oldReads origins code index last nodes)
 
-  -- `sample_schedule`
-  pub sample-schedule : (planOf g) .sampleTasks ≡ ordinalSchedule (g .nodes) (ss g v) (writes g) (comps g v) (g .output)
-  unfolding planOf
-  sample-schedule = sym (ordinals-same (g .nodes) (ss g v) (sample-length (slots g v) (g .nodes)) (writes g) all-inside (comps g v) (g .output))
+module _ (nodes : List Node) (origins : List Origin) (ws : List Write) (computations : List ℕ) where
+  -- `after`: the ordinal of the computation after which the write comes, if there is one
+  abbrev pub after : Write → ℕ
+  after w =
+      max (getD (positions 0 computations (replicate (length nodes) 0)) (w .value) 0)
+      (oldReads origins (w .code - 6) (w .index) (lastReads nodes 0 computations (replicate (length nodes) 0)) (countUp 0 (length nodes)))
+
+  -- the computations from this ordinal on, each with the writes that come after it
+  abbrev pub ordinalTasks : ℕ → List ℕ → List Task
+  ordinalTasks ordinal [] = []
+  ordinalTasks ordinal (n ∷ rest) = computeTask n ∷ (tasksOf (filter (λ w. eqb (after w) (suc ordinal)) ws) ++ ordinalTasks (suc ordinal) rest)
+
+  -- writes that come after nothing first, the output last
+  abbrev pub ordinalSchedule : ℕ → List Task
+  ordinalSchedule output =
+      tasksOf (filter (λ w. eqb (after w) 0) ws) ++ (ordinalTasks 0 computations ++ (storeTask 12 0 output ∷ []))
+
+-- ---- `compile_with`, up to the allocator
+
+-- from `sample_needed` on; `control_roots` are the nodes that get a control slot
+abbrev pub planFrom : Flow → List Bool → Plan
+planFrom flow needed =
+    let nodes : List Node = flow .nodes in
+    let invariant : List Bool = invariants nodes [] in
+    let homes : List Bool = homesOf nodes invariant needed in
+    let slots : List ℕ = number 0 homes in
+    let controlNeeded : List Bool = reachable nodes (filter (λ n. getD homes n false) (countUp 0 (length nodes))) (λ n. true) in
+    let origins : List Origin = sampleOrigins slots nodes in
+    record {
+      slots = slots;
+      fixed = count slots;
+      controlOrigins = map controlOrigin nodes;
+      controlTasks = controlTasks slots (controlComputations nodes controlNeeded);
+      sampleOrigins = origins;
+      sampleTasks = ordinalSchedule nodes origins (writes flow) (sampleComputations nodes needed origins) (flow .output);
+    }
+
+unfoldable pub planRust : Flow → Plan
+planRust flow =
+    let nodes : List Node = flow .nodes in
+    planFrom flow (reachable nodes (roots flow) (λ n. not (hoistable nodes (invariants nodes []) n)))

@@ -1,4 +1,4 @@
--- codegen.rs: `reachable` as it is written, with its stack of pending nodes, marks the same nodes as the sweep. Assumes nothing.
+-- codegen.rs: `reachable` with its stack marks the same nodes as the sweep: `reachable-same`. Assumes nothing.
 use mathlib.Core.Path.{_∙_, _≡_, ap, refl, subst, sym}
 use mathlib.Core.Logic.{_⊎_, inl, inr}
 use mathlib.Core.Bool.{Bool, _||_, cond, false, true}
@@ -13,25 +13,10 @@ use Rattle.tables.specs.Tests.{or-pass}
 use Rattle.plan.specs.Lists.{member}
 use Rattle.plan.specs.Nodes.{Node, operands, nodeAt}
 use Rattle.plan.specs.Hoist.{markAll, sweep}
+use Rattle.plan.specs.RustPlan.{backwards, turns, reachable}
 use Rattle.plan.specs.TestLaws.{or-first, or-second}
 use Rattle.plan.specs.ListLaws.{flag-inside, member-append, member-left, member-right, none-seen}
 use Rattle.plan.specs.Reached.{set-mark, two-operands, Ordered, mark-in, mark-inv, length-markAll, length-sweep, sweep-mono, sweep-all, sweep-closed}
-
--- the other way round: a stack's top is its last element in the Rust, its first here
-abbrev pub backwards : List ℕ → List ℕ
-backwards [] = []
-backwards (x ∷ xs) = backwards xs ++ (x ∷ [])
-
--- the `while let` loop, with as many turns as it may take; `seen` and the stack of pending nodes
-abbrev pub turns : List Node → (ℕ → Bool) → ℕ → List Bool → List ℕ → List Bool
-turns ns down zero seen pending = seen
-turns ns down (suc f) seen [] = seen
-turns ns down (suc f) seen (n ∷ pending) =
-    cond (getD seen n false) (turns ns down f seen pending) (turns ns down f (set seen n true) (backwards (cond (down n) (operands (nodeAt ns n)) []) ++ pending))
-
--- `reachable`: each node is entered once and pushes two at most
-abbrev pub reachable : List Node → List ℕ → (ℕ → Bool) → List Bool
-reachable ns rs down = turns ns down (2 * length ns + length rs) (replicate (length ns) false) (backwards rs)
 
 -- ---- lists
 
