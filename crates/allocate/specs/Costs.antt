@@ -7,7 +7,7 @@ use native.Mathlib.Omega.{arith}
 use lib.ListN.{getD, length}
 use Rattle.plan.specs.Nodes.{Node}
 use Rattle.plan.specs.Origins.{Origin}
-use Rattle.plan.specs.Schedule.{Task, storeTask, Write, writesFrom, waits, tasksOf, scheduleFrom, schedule, controlTask, controlTasks}
+use Rattle.plan.specs.Schedule.{computeTask, keepTask, Task, storeTask, Write, writesFrom, waits, tasksOf, scheduleFrom, schedule, controlTask, controlTasks}
 use Rattle.plan.specs.Lists.{filter, anyOf}
 use Rattle.allocate.specs.RunLaws.{costs}
 
@@ -94,3 +94,10 @@ pub writes-count : (c k : ℕ) (us : List ℕ) → length (writesFrom c k us) �
 writes-count c k [] = omega arith
 writes-count c k (zero ∷ us) = omega (arith, writes-count c (suc k) us)
 writes-count c k (suc n ∷ us) = omega (arith, writes-count c (suc k) us)
+
+-- no more tasks than the steps they may emit
+pub tasks-le : (tasks : List Task) → length tasks ≤ costs tasks
+tasks-le [] = omega arith
+tasks-le (computeTask n ∷ tasks) = omega (arith, tasks-le tasks)
+tasks-le (keepTask k v ∷ tasks) = omega (arith, tasks-le tasks)
+tasks-le (storeTask c i v ∷ tasks) = omega (arith, tasks-le tasks)

@@ -1,11 +1,11 @@
 -- codegen.rs: `max_by_key` in `take` compares pairs: whether a value needs no spill, then the position of its next read or the greatest number. The allocator's
 -- key orders registers as these pairs do: `key-order`. Assumes nothing.
-use mathlib.Core.Path.{_≡_, refl, sym, ap, _∙_}
+use mathlib.Core.Path.{_≡_, refl, _∙_}
 use mathlib.Core.Bool.{Bool, _||_, cond, false, true}
-use mathlib.Core.List.{List, [], _∷_, _++_}
-use Prim.Native.Nat.{ℕ, zero, suc, pred, _+_, _≤_, _<_}
+use mathlib.Core.List.{List, [], _∷_}
+use Prim.Native.Nat.{ℕ, suc, pred, _+_, _≤_, _<_}
 use native.Mathlib.Omega.{arith}
-use lib.ListN.{length, replicate}
+use lib.ListN.{length}
 use lib.Dec.{leb, leb→le, le→leb}
 use Rattle.plan.specs.Lists.{member}
 use Rattle.plan.specs.TestLaws.{same-test}

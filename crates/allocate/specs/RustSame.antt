@@ -13,10 +13,10 @@ use Rattle.plan.specs.Origins.{isLoad, originAt}
 use Rattle.plan.specs.Nodes.{nodeAt}
 use Rattle.plan.specs.Schedule.{Task, computeTask, keepTask, storeTask, taskReads}
 use Rattle.allocate.specs.Actions.{storeControl, storeAction}
-use Rattle.allocate.specs.State.{Allocated, allocated, allLocked, andThen, Setting, State, Taken, TakenAll, registerOf, ownerOf, isFresh, reloadable, emit, emitOperation, setSlot, begin}
+use Rattle.allocate.specs.State.{Allocated, allocated, allLocked, andThen, Setting, State, Taken, TakenAll, registerOf, ownerOf, isFresh, emit, emitOperation, setSlot, begin}
 use Rattle.allocate.specs.Allocator.{readLater, distance, evictKey, takeFree, takeRegister, takeBest, bring, fetchHeld, fetch, fetchAll, releaseIf, releaseAll, resultRegister, lower, runCompute, runKeep, homeCode, readsOf, allocate}
 use Rattle.allocate.specs.RunLaws.{TasksOk}
-use Rattle.allocate.specs.RustAllocator.{readTable, nextReadIn, advance, usizeMax, unwrapOr, pairLe, keyLe, betterBy, bestBy, takeFreeRust, takeRust, fetchHeldRust, fetchRust, fetchAllRust, releaseAllRust, resultRust, computeRust, keepRust, visitRust, preserveRust, hideAll, storeRust, taskRust, runRust, allocateRust}
+use Rattle.allocate.specs.RustAllocator.{readTable, nextReadIn, advance, usizeMax, unwrapOr, keyLe, betterBy, bestBy, takeFreeRust, takeRust, fetchHeldRust, fetchRust, fetchAllRust, releaseAllRust, resultRust, computeRust, visitRust, preserveRust, hideAll, storeRust, taskRust, runRust, allocateRust}
 use Rattle.allocate.specs.RustReads.{Left, left-start, left-next, Agrees, left-agrees, table-length, advance-length}
 use Rattle.allocate.specs.RustKeys.{nextRead, next-is, key-order}
 use Rattle.allocate.specs.RustStores.{visit, preserveAll}

@@ -55,7 +55,7 @@ Both e home cost s = Ran e home cost (begin e) s × ((s .slots ≤ e .fixed + le
 
 module _ (b : Flow) (v : GoodFlow b) where
   -- no node is computed in both phases
-  phases : length (ccomps b v) + length (comps b v) ≤ length (b .nodes)
+  pub phases : length (ccomps b v) + length (comps b v) ≤ length (b .nodes)
   unfolding controlComputations sampleComputations hoistable
   phases =
       let p : ℕ → Bool = λ n. getD (cneed b v) n false && isComputed (nodeAt (b .nodes) n) in
@@ -93,11 +93,13 @@ module _ (b : Flow) (v : GoodFlow b) where
       (schedule (b .nodes) (ss b v) (writes b) (comps b v) (b .output)) [] 0 (begin e)
       (sample-tasks-ok b v (usable mask)) (begin-inv e [] _) (λ w q t. absurd (omega arith))
 
-  control-cost : costs ((planOf b) .controlTasks) ≤ 7 * length (ccomps b v)
+  -- seven steps a computation of the control phase
+  pub control-cost : costs ((planOf b) .controlTasks) ≤ 7 * length (ccomps b v)
   unfolding planOf
   control-cost = costs-control (slots b v) (ccomps b v)
 
-  sample-cost : costs ((planOf b) .sampleTasks) ≤ 6 * length (comps b v) + 5 * (length (b .states) + length (b .delays) + 1)
+  -- six a computation of the sample phase, five a write
+  pub sample-cost : costs ((planOf b) .sampleTasks) ≤ 6 * length (comps b v) + 5 * (length (b .states) + length (b .delays) + 1)
   unfolding planOf writes
   sample-cost =
       omega (

@@ -1,50 +1,64 @@
 -- codegen.rs: `compile_with` in its own forms is compile. Assumes nothing.
-use mathlib.Core.Path.{_∙_, _≡_, ap, refl, sym}
-use mathlib.Core.Bool.{Bool, false, not, true}
-use mathlib.Core.List.{List, [], map}
-use Prim.Native.Nat.{ℕ}
-use lib.ListN.{getD, length}
-use Rattle.block.specs.Block.{Block}
+use mathlib.Core.Path.{_∙_, _≡_, ap, refl}
+use mathlib.Core.Bool.{Bool}
+use mathlib.Core.List.{List, []}
+use Prim.Native.Nat.{ℕ, _+_, _*_, _≤_}
+use native.Mathlib.Omega.{arith}
+use lib.ListN.{length}
+use Rattle.tables.specs.Lists.{list-length}
+use Rattle.block.specs.Block.{Block, stateCount, delayCount}
 use Rattle.block.specs.Validation.{countsOf}
 use Rattle.block.specs.Valid.{Valid}
-use Rattle.expand.specs.Graph.{graphOf}
+use Rattle.expand.specs.Graph.{mappedUpdate, graphOf}
 use Rattle.expand.specs.GraphLaws.{good-graph}
-use Rattle.plan.specs.Flow.{flowOf, good-flow}
-use Rattle.plan.specs.Lists.{filter, countUp, count}
-use Rattle.plan.specs.Nodes.{Node, Flow, roots}
-use Rattle.plan.specs.Hoist.{invariants, number, hoistable, neededBy, homesOf, controlComputations}
-use Rattle.plan.specs.Origins.{Origin, controlOrigin, sampleOrigins}
-use Rattle.plan.specs.Schedule.{Plan, planOf, controlTasks, sampleComputations, writes}
-use Rattle.plan.specs.Planned.{GoodFlow, inv, need, homes, slots, ss, cs, cneed, ccomps}
+use Rattle.plan.specs.Flow.{flowOf, flow-length, good-flow}
+use Rattle.plan.specs.Lists.{count}
+use Rattle.plan.specs.Nodes.{Flow}
+use Rattle.plan.specs.Schedule.{Plan, planOf, controlTasks}
+use Rattle.plan.specs.Planned.{GoodFlow, slots}
 use Rattle.plan.specs.RustPlan.{planRust}
 use Rattle.plan.specs.PlanSame.{plan-same}
 use Rattle.allocate.specs.State.{Allocated, allocated, allLocked, andThen, Setting, State, begin}
 use Rattle.allocate.specs.Allocator.{allocate}
-use Rattle.allocate.specs.Scheduled.{settingOf, sample-tasks-ok, control-tasks-ok}
-use Rattle.allocate.specs.RustTwins.{allocateAll, withFresh, Alike, allocate-same}
+use Rattle.allocate.specs.Scheduled.{sample-tasks-ok, control-tasks-ok}
+use Rattle.allocate.specs.RustAllocator.{usizeMax, allocateRust}
+use Rattle.allocate.specs.RustTwins.{withFresh, Alike}
+use Rattle.allocate.specs.RustSame.{allocate-rust}
+use Rattle.allocate.specs.Costs.{tasks-le}
+use Rattle.allocate.specs.RunLaws.{TasksOk}
 use Rattle.compile.specs.Draft.{Draft, usable, controlSetting, sampleSetting, draftOf, compilePlan, compileFlow}
+use Rattle.compile.specs.PhasesFit.{phases, control-cost, sample-cost}
 
 -- codegen.rs: `compile_with`
 unfoldable pub compileRust : Flow → ℕ → Allocated Draft
-compileRust g mask =
-    let p : Plan = planRust g in
-    andThen (allocateAll (controlSetting g p mask) (p .controlTasks) (begin (controlSetting g p mask)))
-    (λ c. andThen (allocateAll (sampleSetting g p mask) (p .sampleTasks) (begin (sampleSetting g p mask))) (λ s. allocated (draftOf c s)))
+compileRust flow mask =
+    let plan : Plan = planRust flow in
+    andThen (allocateRust (controlSetting flow plan mask) (plan .controlTasks) (begin (controlSetting flow plan mask)))
+    (λ control.
+    andThen (allocateRust (sampleSetting flow plan mask) (plan .sampleTasks) (begin (sampleSetting flow plan mask)))
+    (λ sample. allocated (draftOf control sample)))
 
-module _ (g : Flow) (v : GoodFlow g) where
-  control-alike : (mask : ℕ)
-      → let e : Setting = controlSetting g (planOf g) mask in Alike e (allocate e ((planOf g) .controlTasks) (begin e)) (allocateAll e ((planOf g) .controlTasks) (begin e))
-  unfolding controlSetting planOf
+-- the tasks of both phases are as the allocator asks
+control-plan-ok : (g : Flow) (v : GoodFlow g) (mask : ℕ) → TasksOk (controlSetting g (planOf g) mask) (slots g v) [] 0 ((planOf g) .controlTasks)
+unfolding controlSetting planOf
+control-plan-ok g v mask = control-tasks-ok g v (usable mask) (count (slots g v))
+
+sample-plan-ok : (g : Flow) (v : GoodFlow g) (mask : ℕ) → TasksOk (sampleSetting g (planOf g) mask) [] [] 0 ((planOf g) .sampleTasks)
+unfolding sampleSetting planOf
+sample-plan-ok g v mask = sample-tasks-ok g v (usable mask)
+
+module _ (g : Flow) (v : GoodFlow g) (few : 7 * length (g .nodes) + 5 * (length (g .states) + length (g .delays) + 1) ≤ usizeMax) where
+  control-alike : (mask : ℕ) → let e : Setting = controlSetting g (planOf g) mask in
+      Alike e (allocate e ((planOf g) .controlTasks) (begin e)) (allocateRust e ((planOf g) .controlTasks) (begin e))
   control-alike mask =
-      let e : Setting = settingOf (g .nodes) (cs g v) (usable mask) (slots g v) true (count (slots g v)) in
-      allocate-same e (slots g v) [] 0 (controlTasks (slots g v) (ccomps g v)) (control-tasks-ok g v (usable mask) (count (slots g v)))
+      allocate-rust (controlSetting g (planOf g) mask) (slots g v) ((planOf g) .controlTasks) (control-plan-ok g v mask)
+      (omega (arith, tasks-le ((planOf g) .controlTasks), control-cost g v, phases g v))
 
-  sample-alike : (mask : ℕ)
-      → let e : Setting = sampleSetting g (planOf g) mask in Alike e (allocate e ((planOf g) .sampleTasks) (begin e)) (allocateAll e ((planOf g) .sampleTasks) (begin e))
-  unfolding sampleSetting planOf
+  sample-alike : (mask : ℕ) → let e : Setting = sampleSetting g (planOf g) mask in
+      Alike e (allocate e ((planOf g) .sampleTasks) (begin e)) (allocateRust e ((planOf g) .sampleTasks) (begin e))
   sample-alike mask =
-      let e : Setting = settingOf (g .nodes) (ss g v) (usable mask) [] false 0 in
-      allocate-same e [] [] 0 ((planOf g) .sampleTasks) (sample-tasks-ok g v (usable mask))
+      allocate-rust (sampleSetting g (planOf g) mask) [] ((planOf g) .sampleTasks) (sample-plan-ok g v mask)
+      (omega (arith, tasks-le ((planOf g) .sampleTasks), sample-cost g v, phases g v))
 
   -- steps, slots and registers do not depend on what is fresh
   second : (e₂ : Setting) (c : State) (fr : List Bool) (x y : Allocated State) → Alike e₂ x y
@@ -62,18 +76,30 @@ module _ (g : Flow) (v : GoodFlow g) where
   first e₁ e₂ allLocked (allocated d) x₂ y₂ k l = absurd k
   first e₁ e₂ allLocked allLocked x₂ y₂ k l = refl
 
-  -- the Rust's compile is compile
+  -- THE RUST'S COMPILE is compile
   pub compile-rust : (mask : ℕ) → compileRust g mask ≡ compileFlow g mask
   unfolding compileRust compileFlow compilePlan
   compile-rust mask =
-      rw plan-same
+      rw (plan-same g v)
       (first (controlSetting g (planOf g) mask) (sampleSetting g (planOf g) mask)
       (allocate (controlSetting g (planOf g) mask) ((planOf g) .controlTasks) (begin (controlSetting g (planOf g) mask)))
-      (allocateAll (controlSetting g (planOf g) mask) ((planOf g) .controlTasks) (begin (controlSetting g (planOf g) mask)))
+      (allocateRust (controlSetting g (planOf g) mask) ((planOf g) .controlTasks) (begin (controlSetting g (planOf g) mask)))
       (allocate (sampleSetting g (planOf g) mask) ((planOf g) .sampleTasks) (begin (sampleSetting g (planOf g) mask)))
-      (allocateAll (sampleSetting g (planOf g) mask) ((planOf g) .sampleTasks) (begin (sampleSetting g (planOf g) mask)))
+      (allocateRust (sampleSetting g (planOf g) mask) ((planOf g) .sampleTasks) (begin (sampleSetting g (planOf g) mask)))
       (control-alike mask) (sample-alike mask))
 
 -- of a valid block
 pub block-rust : (b : Block) → Valid b → (mask : ℕ) → compileRust (flowOf (graphOf b)) mask ≡ compileFlow (flowOf (graphOf b)) mask
-block-rust b valid mask = compile-rust (flowOf (graphOf b)) (good-flow (countsOf b) (graphOf b) (good-graph b valid)) mask
+unfolding graphOf flowOf
+block-rust b valid mask =
+    compile-rust (flowOf (graphOf b)) (good-flow (countsOf b) (graphOf b) (good-graph b valid))
+    (omega (
+      arith,
+      flow-length (graphOf b),
+      list-length (mappedUpdate b (b .states)) (stateCount b),
+      list-length (mappedUpdate b (b .delays)) (delayCount b),
+      valid .fits,
+      valid .stateLimit,
+      valid .delayLimit,
+    ))
+    mask

@@ -14,7 +14,7 @@ use Rattle.tables.specs.Zeros.{zeros-at}
 use Rattle.plan.specs.Lists.{member, filter, anyOf, countUp}
 use Rattle.plan.specs.Nodes.{Node, operands, nodeAt}
 use Rattle.plan.specs.Origins.{Origin, isLoad, originAt}
-use Rattle.plan.specs.Schedule.{Task, computeTask, storeTask, Write, waits, tasksOf, scheduleFrom, schedule}
+use Rattle.plan.specs.Schedule.{computeTask, storeTask, Write, waits, tasksOf, scheduleFrom, schedule}
 use Rattle.plan.specs.RustPlan.{positions, setEach, lastReads, oldReads, after, ordinalTasks, ordinalSchedule}
 use Rattle.plan.specs.TestLaws.{or-first, or-second, and-first, and-second, and-both, same-test}
 use Rattle.plan.specs.ListLaws.{count-up-member, count-up-below, any-at, any-is}
