@@ -19,7 +19,8 @@ use Rattle.block.specs.Validation.{expandedLength, countsOf, validation}
 use Rattle.block.specs.Valid.{Valid, valid}
 use Rattle.expand.specs.Graph.{Graph, mappedUpdate, graphOf}
 use Rattle.expand.specs.GraphLaws.{good-graph}
-use Rattle.plan.specs.Flow.{flowOf, flow-length, good-flow}
+use Rattle.plan.specs.Flow.{flowOf}
+use Rattle.plan.specs.FlowLaws.{flow-length, good-flow}
 use Rattle.allocate.specs.Actions.{Action, Operation, load, compute, spill, reload, storeState, storeDelay, storeOutput, storeControl}
 use Rattle.allocate.specs.State.{Allocated, allocated, allLocked, andThen}
 use Rattle.allocate.specs.Outcomes.{allocated-is, not-allocated, post-at}

@@ -11,7 +11,8 @@ use Rattle.block.specs.Validation.{countsOf}
 use Rattle.block.specs.Valid.{Valid}
 use Rattle.expand.specs.Graph.{mappedUpdate, graphOf}
 use Rattle.expand.specs.GraphLaws.{good-graph}
-use Rattle.plan.specs.Flow.{flowOf, flow-length, good-flow}
+use Rattle.plan.specs.Flow.{flowOf}
+use Rattle.plan.specs.FlowLaws.{flow-length, good-flow}
 use Rattle.plan.specs.Lists.{count}
 use Rattle.plan.specs.Nodes.{Flow}
 use Rattle.plan.specs.Schedule.{Plan, planOf, controlTasks}

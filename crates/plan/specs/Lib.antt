@@ -5,6 +5,7 @@ pub mod Nodes
 pub mod Hoist
 pub mod Origins
 pub mod Schedule
+pub mod Flow
 -- laws of tests and lists
 pub mod TestLaws
 pub mod ListLaws
@@ -12,8 +13,8 @@ pub mod ListLaws
 pub mod OriginLaws
 pub mod Reached
 pub mod Planned
--- the expanded block as a flow: `flowOf`, and that a good graph's flow is good
-pub mod Flow
+-- a good graph's flow is good
+pub mod FlowLaws
 -- the Rust's own forms: definitions, and that they give the same plan
 pub mod RustPlan
 pub mod Worklist
