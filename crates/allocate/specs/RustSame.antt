@@ -86,7 +86,9 @@ module _ (e : Setting) (next : ℕ → ℕ) (k : ℕ) (rest : List (List ℕ)) (
     fetch-same n locked s = go (registerOf s n)
       where
         go : (h : ℕ) → fetchHeldRust e next n locked s h ≡ fetchHeld e rest n locked s h
-        go zero = ap (λ (x : Allocated Taken). andThen x (λ t. allocated (record { register = t .register; state = bring e n (t .register) (t .state) }))) (take-same n locked s)
+        go zero =
+            ap (λ (x : Allocated Taken). andThen x (λ t. allocated (record { register = t .register; state = bring e n (t .register) (t .state) })))
+            (take-same n locked s)
         go (suc r) = refl
 
     fetches-same : (reads locked : List ℕ) (s : State) → fetchAllRust e next reads locked s ≡ fetchAll e rest reads locked s
@@ -97,7 +99,8 @@ module _ (e : Setting) (next : ℕ → ℕ) (k : ℕ) (rest : List (List ℕ)) (
         (and-same (fetch e rest n locked s) (λ t. fetchAllRust e next reads (locked ++ (t .register ∷ [])) (t .state))
         (λ t. fetchAll e rest reads (locked ++ (t .register ∷ [])) (t .state)) (λ t. fetches-same reads (locked ++ (t .register ∷ [])) (t .state)))
 
-    preserve-alike : (code index : ℕ) (nodes locked : List ℕ) (s : State) → preserveRust e next code index locked s nodes ≡ preserveAll e rest code index locked s nodes
+    preserve-alike : (code index : ℕ) (nodes locked : List ℕ) (s : State)
+        → preserveRust e next code index locked s nodes ≡ preserveAll e rest code index locked s nodes
     preserve-alike code index [] locked s = refl
     preserve-alike code index (n ∷ nodes) locked s =
         rw (later-same n) (go (isLoad code index (originAt (e .origins) n) && (isFresh s n && readLater rest n)) (λ l t. preserve-alike code index nodes l t))
@@ -147,7 +150,8 @@ module _ (e : Setting) (table : List (List ℕ)) where
   reads-length [] = refl
   reads-length (task ∷ tasks) = ap suc (reads-length tasks)
 
-  run-same : (tasks : List Task) (k : ℕ) (indices : List ℕ) (s : State) → length table ≡ length indices → Left k (readsOf e tasks) table indices → k + length tasks ≤ usizeMax
+  run-same : (tasks : List Task) (k : ℕ) (indices : List ℕ) (s : State) → length table ≡ length indices → Left k (readsOf e tasks) table indices
+      → k + length tasks ≤ usizeMax
       → runRust e table k indices tasks s ≡ allocateAll e tasks s
   unfolding allocateAll readsOf
   run-same [] k indices s same left few = refl
@@ -159,32 +163,38 @@ module _ (e : Setting) (table : List (List ℕ)) where
       let l : length rest ≡ length tasks = reads-length tasks in
       let a : Agrees (nextReadIn table indices) k (reads ∷ rest) = left-agrees k (reads ∷ rest) table indices left in
       let c : Agrees (nextReadIn table moved) (suc k) rest = left-agrees (suc k) rest table moved on in
-      rw (fetches-same e (nextReadIn table indices) k (reads ∷ rest) a (omega arith) reads [] s,
-      and-same (fetchAll e (reads ∷ rest) reads [] s) (λ f. taskRust e (nextReadIn table moved) reads task f) (λ f. runTaskAll e rest reads task f)
-      (λ f. task-same e (nextReadIn table moved) (suc k) rest c (omega arith) reads task f))
+      rw (
+        fetches-same e (nextReadIn table indices) k (reads ∷ rest) a (omega arith) reads [] s,
+        and-same (fetchAll e (reads ∷ rest) reads [] s) (λ f. taskRust e (nextReadIn table moved) reads task f) (λ f. runTaskAll e rest reads task f)
+            (λ f. task-same e (nextReadIn table moved) (suc k) rest c (omega arith) reads task f),
+      )
       (and-same (andThen (fetchAll e (reads ∷ rest) reads [] s) (λ f. runTaskAll e rest reads task f)) (λ t. runRust e table (suc k) moved tasks t) (λ t. allocateAll e tasks t)
       (λ t. run-same tasks (suc k) moved t (same ∙ sym (advance-length k reads table indices)) on (omega arith)))
 
 -- tasks read nodes alone
-reads-inside : (e : Setting) (home done : List ℕ) (last : ℕ) (tasks : List Task) → TasksOk e home done last tasks → (n : ℕ) → T (readLater (readsOf e tasks) n) → n < length (e .origins)
+reads-inside : (e : Setting) (home done : List ℕ) (last : ℕ) (tasks : List Task) → TasksOk e home done last tasks → (n : ℕ) → T (readLater (readsOf e tasks) n)
+    → n < length (e .origins)
 unfolding readsOf
 reads-inside e home done last [] o n t = absurd t
 reads-inside e home done last (computeTask m ∷ tasks) o n t =
     go (or-pass (member n (taskReads (e .nodes) (e .origins) (computeTask m))) (readLater (readsOf e tasks) n) t) (reads-inside e home (m ∷ done) (suc m) tasks (o .3) n)
   where
-    go : T (member n (taskReads (e .nodes) (e .origins) (computeTask m))) ⊎ T (readLater (readsOf e tasks) n) → (T (readLater (readsOf e tasks) n) → n < length (e .origins)) → n < length (e .origins)
+    go : T (member n (taskReads (e .nodes) (e .origins) (computeTask m))) ⊎ T (readLater (readsOf e tasks) n)
+        → (T (readLater (readsOf e tasks) n) → n < length (e .origins)) → n < length (e .origins)
     go (inl u) ih = o .0 n u .0
     go (inr u) ih = ih u
 reads-inside e home done last (keepTask k v ∷ tasks) o n t =
     go (or-pass (member n (taskReads (e .nodes) (e .origins) (keepTask k v))) (readLater (readsOf e tasks) n) t) (reads-inside e home done 0 tasks (o .4) n)
   where
-    go : T (member n (taskReads (e .nodes) (e .origins) (keepTask k v))) ⊎ T (readLater (readsOf e tasks) n) → (T (readLater (readsOf e tasks) n) → n < length (e .origins)) → n < length (e .origins)
+    go : T (member n (taskReads (e .nodes) (e .origins) (keepTask k v))) ⊎ T (readLater (readsOf e tasks) n)
+        → (T (readLater (readsOf e tasks) n) → n < length (e .origins)) → n < length (e .origins)
     go (inl u) ih = o .0 n u .0
     go (inr u) ih = ih u
 reads-inside e home done last (storeTask c i v ∷ tasks) o n t =
     go (or-pass (member n (taskReads (e .nodes) (e .origins) (storeTask c i v))) (readLater (readsOf e tasks) n) t) (reads-inside e home done 0 tasks (o .1) n)
   where
-    go : T (member n (taskReads (e .nodes) (e .origins) (storeTask c i v))) ⊎ T (readLater (readsOf e tasks) n) → (T (readLater (readsOf e tasks) n) → n < length (e .origins)) → n < length (e .origins)
+    go : T (member n (taskReads (e .nodes) (e .origins) (storeTask c i v))) ⊎ T (readLater (readsOf e tasks) n)
+        → (T (readLater (readsOf e tasks) n) → n < length (e .origins)) → n < length (e .origins)
     go (inl u) ih = o .0 n u .0
     go (inr u) ih = ih u
 
