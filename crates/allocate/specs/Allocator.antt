@@ -158,7 +158,8 @@ preserve setting rest locked s (suc n) = preserveIf (isFresh s n && readLater re
 unfoldable pub runStore : Setting → List (List ℕ) → List ℕ → ℕ → ℕ → TakenAll → Allocated State
 runStore setting rest reads code index fetched =
     andThen (preserve setting rest (fetched .registers) (fetched .state) (homeOf (setting .origins) (homeCode code) index))
-    (λ s. allocated (releaseAll setting rest reads (stale (homeOf (setting .origins) (homeCode code) index) (emit (storeAction code index (getD (fetched .registers) 0 0)) s))))
+    (λ s. allocated (releaseAll setting rest reads
+    (stale (homeOf (setting .origins) (homeCode code) index) (emit (storeAction code index (getD (fetched .registers) 0 0)) s))))
 
 -- ---- all tasks
 

@@ -48,7 +48,8 @@ begin-inv e home rest =
     record {
       good = begin-good e home;
       ready = λ m t k.
-          or-second (isSome (getD (replicate (length (e .origins)) 0) m 0)) (isSome (getD (replicate (length (e .origins)) 0) m 0) || getD (map hasOrigin (e .origins)) m false)
+          or-second (isSome (getD (replicate (length (e .origins)) 0) m 0))
+          (isSome (getD (replicate (length (e .origins)) 0) m 0) || getD (map hasOrigin (e .origins)) m false)
           (or-second (isSome (getD (replicate (length (e .origins)) 0) m 0)) (getD (map hasOrigin (e .origins)) m false) (rw (fresh-src (e .origins) m) k));
       held = λ m q h. absurd (omega (arith, zeros-at (length (e .origins)) m));
     }

@@ -68,7 +68,12 @@ place-grew : (v r : ℕ) (s : State) → Grew s (place v r s)
 unfolding place
 place-grew v r s =
     let own : List ℕ = set (s .owner) r (suc v) in
-    record { slots = omega arith; owners = length-set (s .owner) r (suc v); most = λ n l h. max-le (s .most) (count own) n h (omega (arith, count-le own, length-set (s .owner) r (suc v))) }
+    record {
+      slots = omega arith;
+      owners = length-set (s .owner) r (suc v);
+      most = λ n l h. max-le (s .most) (count own) n h
+          (omega (arith, count-le own, length-set (s .owner) r (suc v)));
+    }
 
 abbrev GrewTaken : State → Taken → Type 0
 GrewTaken s g = Grew s (g .state)
@@ -158,17 +163,21 @@ setSlot-grew v k s = record { slots = omega arith; owners = refl; most = λ n l 
 task-grew : (e : Setting) (rest : List (List ℕ)) (reads : List ℕ) (o : Task) (g : TakenAll) → Post (Unit {0}) (λ s′. Grew (g .state) s′) (runTask e rest reads o g)
 unfolding runTask runCompute runKeep runStore
 task-grew e rest reads (computeTask n) g =
-    post-bind (Unit {0}) (GrewTaken (g .state)) _ (resultRegister e rest n (g .registers) (g .state) (firstOf (λ d. not (readLater rest d)) reads)) _ (result-grew e rest n (g .registers) (g .state) (firstOf (λ d. not (readLater rest d)) reads)) (λ t h.
+    post-bind (Unit {0}) (GrewTaken (g .state)) _ (resultRegister e rest n (g .registers) (g .state) (firstOf (λ d. not (readLater rest d)) reads)) _
+    (result-grew e rest n (g .registers) (g .state) (firstOf (λ d. not (readLater rest d)) reads)) (λ t h.
     let x : Operation = lower (nodeAt (e .nodes) n) (t .register) (g .registers) in
-    grew-trans (g .state) (t .state) _ h (grew-trans (t .state) (emitOperation x (t .state)) _ (operation-grew x (t .state)) (releaseAll-grew e rest reads (emitOperation x (t .state)))))
+    grew-trans (g .state) (t .state) _ h (grew-trans (t .state) (emitOperation x (t .state)) _ (operation-grew x (t .state))
+    (releaseAll-grew e rest reads (emitOperation x (t .state)))))
 task-grew e rest reads (keepTask k v) g =
     let a : State = emit (storeControl k (getD (g .registers) 0 0)) (g .state) in
-    grew-trans (g .state) a _ (emit-grew (storeControl k (getD (g .registers) 0 0)) (g .state)) (grew-trans a (setSlot v k a) _ (setSlot-grew v k a) (releaseAll-grew e rest reads (setSlot v k a)))
+    grew-trans (g .state) a _ (emit-grew (storeControl k (getD (g .registers) 0 0)) (g .state))
+    (grew-trans a (setSlot v k a) _ (setSlot-grew v k a) (releaseAll-grew e rest reads (setSlot v k a)))
 task-grew e rest reads (storeTask c i v) g =
     let h : ℕ = homeOf (e .origins) (homeCode c) i in
     let x : Action = storeAction c i (getD (g .registers) 0 0) in
     post-bind (Unit {0}) (λ s′. Grew (g .state) s′) _ (preserve e rest (g .registers) (g .state) h) _ (preserve-grew e rest (g .registers) (g .state) h) (λ t q.
-    grew-trans (g .state) t _ q (grew-trans t (emit x t) _ (emit-grew x t) (grew-trans (emit x t) (stale h (emit x t)) _ (stale-grew h (emit x t)) (releaseAll-grew e rest reads (stale h (emit x t))))))
+    grew-trans (g .state) t _ q (grew-trans t (emit x t) _ (emit-grew x t)
+    (grew-trans (emit x t) (stale h (emit x t)) _ (stale-grew h (emit x t)) (releaseAll-grew e rest reads (stale h (emit x t))))))
 
 -- a whole run
 pub run-grew : (e : Setting) (os : List Task) (s : State) → Post (Unit {0}) (λ s′. Grew s s′) (allocate e os s)

@@ -120,7 +120,8 @@ module _ (e : Setting) (home : List ℕ) (wf : Sixteen e) where
           let s′ : State = evict e v r s in
           let ev : Evicted e home v r locked s s′ = evicts v r locked s g hr nl in
           let nv : n ≢ v = λ (z : n ≡ v). let y : registerOf s n ≡ suc r = rw z (g .registers .up v r hr) in omega arith in
-          let tk : Took e home n locked s′ (record { register = r; state = place n r s′ }) = placed n r locked s′ (ev .good) (ev .free) (ev .others n nv ∙ hn) ln mr in
+          let tk : Took e home n locked s′ (record { register = r; state = place n r s′ }) = placed n r locked s′ (ev .good) (ev .free) (ev .others n nv ∙ hn)
+          ln mr in
           record {
             good = tk .good;
             held = tk .held;
@@ -201,12 +202,15 @@ module _ (e : Setting) (home : List ℕ) (wf : Sixteen e) where
             still = λ r h. refl;
           }
       go zero q =
-          post-bind (Unit {0}) (Took e home n locked s) (Fetched e home n locked s) (takeRegister e rest n locked s) _ (take-took e home wf rest n locked s g q ln) (λ t k.
+          post-bind (Unit {0}) (Took e home n locked s) (Fetched e home n locked s) (takeRegister e rest n locked s) _
+          (take-took e home wf rest n locked s g q ln) (λ t k.
           let b : Brought (t .state) (bring e n (t .register) (t .state)) = brings e n (t .register) (t .state) in
           record {
             good = b .good e home (k .good);
             held = rw (b .holder) (k .held);
-            keeps = keeps-trans locked s (t .state) (bring e n (t .register) (t .state)) (k .keeps) (keeps-brought locked (t .state) (bring e n (t .register) (t .state)) b);
+            keeps =
+                keeps-trans locked s (t .state) (bring e n (t .register) (t .state)) (k .keeps)
+                (keeps-brought locked (t .state) (bring e n (t .register) (t .state)) b);
             grow = omega (arith, b .grow, k .grow);
             only = λ m q h. k .only m q (rw (b .holder) at h);
             fresh = b .fresh ∙ k .fresh;

@@ -95,7 +95,9 @@ module _ (registers holder owner : List ℕ) (i : Regs registers holder owner) w
   regs-same n hn =
       record {
         down = λ m q h. down m q (set-says holder n 0 m q h);
-        up = λ m q h. let o : getD holder m 0 ≡ suc q = i .up m q h in getD-set-other holder n m 0 0 (λ (e : m ≡ n). let z : getD holder n 0 ≡ suc q = rw e at o in omega arith) ∙ o;
+        up =
+            λ m q h. let o : getD holder m 0 ≡ suc q = i .up m q h in getD-set-other holder n m 0 0
+            (λ (e : m ≡ n). let z : getD holder n 0 ≡ suc q = rw e at o in omega arith) ∙ o;
         inside = i .inside;
       }
     where

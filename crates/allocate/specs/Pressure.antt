@@ -59,7 +59,8 @@ module _ (e : Setting) (asc : Ascending 0 (e .registers)) where
   pub task-sure : (rest : List (List ℕ)) (reads : List ℕ) (o : Task) (g : TakenAll) → length (g .registers) < length (e .registers) → Sure (runTask e rest reads o g)
   unfolding runTask runCompute runKeep runStore
   task-sure rest reads (computeTask n) g h =
-      post-bind ⊥ Any Any (resultRegister e rest n (g .registers) (g .state) (firstOf (λ d. not (readLater rest d)) reads)) _ (go (firstOf (λ d. not (readLater rest d)) reads)) (λ t u. tt)
+      post-bind ⊥ Any Any (resultRegister e rest n (g .registers) (g .state) (firstOf (λ d. not (readLater rest d)) reads)) _
+      (go (firstOf (λ d. not (readLater rest d)) reads)) (λ t u. tt)
     where
       go : (f : ℕ) → Sure (resultRegister e rest n (g .registers) (g .state) f)
       go zero = take-sure rest n (g .registers) (g .state) h

@@ -146,7 +146,8 @@ module _ (e : Setting) (home : List ℕ) (wf : Sixteen e) (rest : List (List ℕ
       go true q ih = ih s g
       go false q ih =
           let a : Let rest s (release e n s) = released n s q in
-          let b : Good e home (releaseAll e rest ns (release e n s)) × Let rest (release e n s) (releaseAll e rest ns (release e n s)) = ih (release e n s) (good-release e home wf n s g) in (
+          let b : Good e home (releaseAll e rest ns (release e n s)) × Let rest (release e n s) (releaseAll e rest ns (release e n s)) = ih (release e n s)
+          (good-release e home wf n s g) in (
             b .0,
             record {
               keep = λ m t h. b .1 .keep m t (a .keep m t h);

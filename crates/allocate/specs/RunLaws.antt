@@ -48,10 +48,13 @@ pub record HomesOk (home : List ℕ) (fixed : ℕ) : Type 0 where
 abbrev pub TasksOk : Setting → List ℕ → List ℕ → ℕ → List Task → Type 0
 TasksOk e home done last [] = Unit {0}
 TasksOk e home done last (computeTask n ∷ os) =
-    ReadsOk e done (taskReads (e .nodes) (e .origins) (computeTask n)) × (n < length (e .origins)) × (T (known e done n) → ⊥) × TasksOk e home (n ∷ done) (suc n) os
+    ReadsOk e done (taskReads (e .nodes) (e .origins) (computeTask n)) × (n < length (e .origins)) × (T (known e done n) → ⊥)
+    × TasksOk e home (n ∷ done) (suc n) os
 TasksOk e home done last (keepTask k v ∷ os) =
-    ReadsOk e done (taskReads (e .nodes) (e .origins) (keepTask k v)) × (last ≡ suc v) × (canonical (e .origins) v ≡ v) × (getD home v 0 ≡ suc k) × TasksOk e home done 0 os
-TasksOk e home done last (storeTask c i v ∷ os) = ReadsOk e done (taskReads (e .nodes) (e .origins) (storeTask c i v)) × TasksOk e home done 0 os
+    ReadsOk e done (taskReads (e .nodes) (e .origins) (keepTask k v)) × (last ≡ suc v) × (canonical (e .origins) v ≡ v) × (getD home v 0 ≡ suc k)
+    × TasksOk e home done 0 os
+TasksOk e home done last (storeTask c i v ∷ os) =
+    ReadsOk e done (taskReads (e .nodes) (e .origins) (storeTask c i v)) × TasksOk e home done 0 os
 
 -- at most so many steps: two fetches of two steps, a spill and the compute; the store of what is held; a fetch, a fetch of the old value and the store
 abbrev pub cost : Task → ℕ
@@ -102,7 +105,8 @@ module _ (e : Setting) (home : List ℕ) (wf : Sixteen e) (hk : HomesOk home (e 
       (λ s′ i′ h′. run-ran os (n ∷ done) (suc n) s′ (o .3) i′ h′)
     where
       lift : (x : Allocated State)
-          → Post (Unit {0}) (λ s′. Next e home (n ∷ done) (readsOf e os) (2 * length (taskReads (e .nodes) (e .origins) (computeTask n)) + 2) s s′ × (T (readLater (readsOf e os) n) → T (isSome (registerOf s′ n)))) x
+          → Post (Unit {0}) (λ s′. Next e home (n ∷ done) (readsOf e os) (2 * length (taskReads (e .nodes) (e .origins) (computeTask n)) + 2) s s′
+          × (T (readLater (readsOf e os) n) → T (isSome (registerOf s′ n)))) x
           → Post (Unit {0}) (Fits (readsOf e os) (n ∷ done) (suc n) 6 s) x
       lift (allocated s′) p = (p .0 .inv, omega (arith, p .0 .grow, reads-two e (computeTask n)), λ v q t. rw (← (suc-inj q)) (p .1 (rw (suc-inj q) t)))
       lift allLocked p = tt
@@ -133,7 +137,12 @@ module _ (e : Setting) (home : List ℕ) (wf : Sixteen e) (hk : HomesOk home (e 
       after rest os done 0 5 s (allocateTask e rest rd (storeTask c j v) s)
       (post-bind (Unit {0}) (FetchedAll e home [] rd s) (Fits rest done 0 5 s) (fetchAll e (rd ∷ rest) rd [] s) _
       (fetchAll-fetched e home wf (rd ∷ rest) rd [] [] s (i .good) (λ m t. o .0 m t .0) tt)
-      (λ g f. lift (runStore e rest rd c j g) (store-next e home wf done rest rd c j s g i (o .0) (λ n q. (home-known (e .origins) (homeCode c) j n q .0, or-second (member n done) (hasOrigin (originAt (e .origins) n)) (home-known (e .origins) (homeCode c) j n q .1))) f)))
+      (λ g f. lift (runStore e rest rd c j g) (store-next e home wf done rest rd c j s g i (o .0)
+      (λ n q. (
+        home-known (e .origins) (homeCode c) j n q .0,
+        or-second (member n done) (hasOrigin (originAt (e .origins) n))
+            (home-known (e .origins) (homeCode c) j n q .1),
+      )) f)))
       (λ s′ i′ h′. run-ran os done 0 s′ (o .1) i′ h′)
     where
       lift : (x : Allocated State)

@@ -35,7 +35,8 @@ far [] n = ((λ h. let z : _≡_ {A = ℕ} 0 1 = cc in absurd (omega arith)), λ
 far (r ∷ rs) n = go (member n r) (far rs n)
   where
     go : (a : Bool) → (readLater rs n ≡ true → distance rs n < length rs) × (readLater rs n ≡ false → distance rs n ≡ length rs)
-        → ((a || readLater rs n) ≡ true → cond a 0 (suc (distance rs n)) < suc (length rs)) × ((a || readLater rs n) ≡ false → cond a 0 (suc (distance rs n)) ≡ suc (length rs))
+        → ((a || readLater rs n) ≡ true → cond a 0 (suc (distance rs n)) < suc (length rs))
+        × ((a || readLater rs n) ≡ false → cond a 0 (suc (distance rs n)) ≡ suc (length rs))
     go true f = ((λ h. omega arith), λ h. let z : _≡_ {A = ℕ} 0 1 = cc in absurd (omega arith))
     go false f = ((λ h. omega (arith, f .0 h)), λ h. omega (arith, f .1 h))
 
@@ -54,7 +55,8 @@ distance-order : (top k : ℕ) (rs : List (List ℕ)) → k + length rs ≤ top 
 distance-order top k rs h v w = rw (next-is top k rs v, next-is top k rs w) (go (readLater rs v) (readLater rs w) refl refl)
   where
     go : (a c : Bool) → readLater rs v ≡ a → readLater rs w ≡ c
-        → (distance rs v ≤ distance rs w → cond a (k + distance rs v) top ≤ cond c (k + distance rs w) top) × (cond a (k + distance rs v) top ≤ cond c (k + distance rs w) top → distance rs v ≤ distance rs w)
+        → (distance rs v ≤ distance rs w → cond a (k + distance rs v) top ≤ cond c (k + distance rs w) top)
+        × (cond a (k + distance rs v) top ≤ cond c (k + distance rs w) top → distance rs v ≤ distance rs w)
     go true true p q = ((λ l. omega arith), λ l. omega arith)
     go true false p q = ((λ l. omega (arith, far rs v .0 p)), λ l. omega (arith, far rs v .0 p, far rs w .1 q))
     go false true p q = ((λ l. omega (arith, far rs v .1 p, far rs w .0 q)), λ l. omega (arith, far rs v .1 p, far rs w .0 q))
@@ -70,7 +72,8 @@ end rs n = go (readLater rs n) refl
 -- the allocator's key orders registers as the Rust's pairs do, at op position k
 pub key-order : (top k : ℕ) (rest : List (List ℕ)) → k + length rest ≤ top → (s : State) (q r : ℕ)
     → leb (evictKey rest s q) (evictKey rest s r)
-    ≡ pairLe (reloadable s (pred (ownerOf s q))) (nextRead top k rest (pred (ownerOf s q))) (reloadable s (pred (ownerOf s r))) (nextRead top k rest (pred (ownerOf s r)))
+    ≡ pairLe (reloadable s (pred (ownerOf s q))) (nextRead top k rest (pred (ownerOf s q))) (reloadable s (pred (ownerOf s r)))
+    (nextRead top k rest (pred (ownerOf s r)))
 unfolding evictKey
 key-order top k rest h s q r = go (reloadable s (pred (ownerOf s q))) (reloadable s (pred (ownerOf s r)))
   where
@@ -81,10 +84,13 @@ key-order top k rest h s q r = go (reloadable s (pred (ownerOf s q))) (reloadabl
     w = pred (ownerOf s r)
 
     go : (a c : Bool)
-        → leb (cond a (suc (length rest)) 0 + distance rest v) (cond c (suc (length rest)) 0 + distance rest w) ≡ pairLe a (nextRead top k rest v) c (nextRead top k rest w)
+        → leb (cond a (suc (length rest)) 0 + distance rest v) (cond c (suc (length rest)) 0 + distance rest w) ≡ pairLe a (nextRead top k rest v) c
+        (nextRead top k rest w)
     go true true =
-        let o = distance-order top k rest h v w in leb-same (suc (length rest) + distance rest v) (suc (length rest) + distance rest w) (nextRead top k rest v) (nextRead top k rest w) (λ l. o .0 (omega arith)) (λ l. omega (arith, o .1 l))
+        let o = distance-order top k rest h v w in leb-same (suc (length rest) + distance rest v) (suc (length rest) + distance rest w) (nextRead top k rest v)
+        (nextRead top k rest w) (λ l. o .0 (omega arith)) (λ l. omega (arith, o .1 l))
     go true false = leb-no (suc (length rest) + distance rest v) (0 + distance rest w) (omega (arith, end rest w))
     go false true = leb-yes (0 + distance rest v) (suc (length rest) + distance rest w) (omega (arith, end rest v))
     go false false =
-        let o = distance-order top k rest h v w in leb-same (0 + distance rest v) (0 + distance rest w) (nextRead top k rest v) (nextRead top k rest w) (λ l. o .0 (omega arith)) (λ l. omega (arith, o .1 l))
+        let o = distance-order top k rest h v w in leb-same (0 + distance rest v) (0 + distance rest w) (nextRead top k rest v) (nextRead top k rest w)
+        (λ l. o .0 (omega arith)) (λ l. omega (arith, o .1 l))

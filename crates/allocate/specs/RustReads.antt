@@ -80,7 +80,8 @@ advance-at k (x ∷ xs) table next n h = advance-at k xs table after n (rw lengt
     twice false = refl
 
     go : Dec (n ≡ x)
-        → (let l : List ℕ = drop (getD after n 0) (getD table n []) in cond (member n xs) (drop (passed k l) l) l) ≡ cond (eqb n x || member n xs) (drop (passed k left) left) left
+        → (let l : List ℕ = drop (getD after n 0) (getD table n []) in cond (member n xs) (drop (passed k l) l) l) ≡ cond (eqb n x || member n xs)
+        (drop (passed k left) left) left
     go (yes e) =
         let s : getD after n 0 ≡ getD next n 0 + passed k left = rw (← e) (getD-set-same next n (getD next n 0 + passed k left) 0 h) in
         rw (s, ← drop-drop (passed k left) (getD next n 0) (getD table n []), eq-eqb n x e) (twice (member n xs))
@@ -159,7 +160,8 @@ first-position k (r ∷ rest) n = go r (first-position (suc k) rest n)
     go (x ∷ xs) ih = two (eqb n x) (go xs ih)
       where
         two : (b : Bool)
-            → elementAt (here k xs n ++ positions (suc k) rest n) 0 ≡ cond (member n xs || readLater rest n) (suc (k + cond (member n xs) 0 (suc (distance rest n)))) 0
+            → elementAt (here k xs n ++ positions (suc k) rest n) 0 ≡ cond (member n xs || readLater rest n)
+            (suc (k + cond (member n xs) 0 (suc (distance rest n)))) 0
             → elementAt (cond b (k ∷ here k xs n) (here k xs n) ++ positions (suc k) rest n) 0
             ≡ cond ((b || member n xs) || readLater rest n) (suc (k + cond (b || member n xs) 0 (suc (distance rest n)))) 0
         two true h = omega arith
@@ -187,7 +189,8 @@ left-start nodes rest inside n = rw (zeros-at nodes n) (go (decLt n nodes))
     go (yes h) =
         table-at 0 rest (replicate nodes []) n (rw (length-replicate nodes empty) h) ∙ ap (λ (l : List ℕ). l ++ positions 0 rest n) (empties-at nodes n)
     go (no h) =
-        List·getD-eq-default (readTable 0 rest (replicate nodes [])) [] {n = n} (omega (arith, table-length 0 rest (replicate nodes empty), length-replicate nodes empty))
+        List·getD-eq-default (readTable 0 rest (replicate nodes [])) [] {n = n}
+        (omega (arith, table-length 0 rest (replicate nodes empty), length-replicate nodes empty))
         ∙ sym (none-left 0 rest n (is-false (readLater rest n) (λ t. h (inside n t))))
 
 nothing : (xs ys : List ℕ) → [] ≡ xs ++ ys → [] ≡ ys

@@ -106,7 +106,8 @@ module _ (e : Setting) (next : ℕ → ℕ) (k : ℕ) (rest : List (List ℕ)) (
         rw (later-same n) (go (isLoad code index (originAt (e .origins) n) && (isFresh s n && readLater rest n)) (λ l t. preserve-alike code index nodes l t))
       where
         go : (b : Bool) → ((l : List ℕ) (t : State) → preserveRust e next code index l t nodes ≡ preserveAll e rest code index l t nodes)
-            → visitRust b e next n locked s (λ l t. preserveRust e next code index l t nodes) ≡ visit b e rest n locked s (λ l t. preserveAll e rest code index l t nodes)
+            → visitRust b e next n locked s (λ l t. preserveRust e next code index l t nodes) ≡ visit b e rest n locked s
+            (λ l t. preserveAll e rest code index l t nodes)
         go false ih = ih locked s
         go true ih =
             rw (fetch-same n locked s)
@@ -168,7 +169,8 @@ module _ (e : Setting) (table : List (List ℕ)) where
         and-same (fetchAll e (reads ∷ rest) reads [] s) (λ f. taskRust e (nextReadIn table moved) reads task f) (λ f. runTaskAll e rest reads task f)
             (λ f. task-same e (nextReadIn table moved) (suc k) rest c (omega arith) reads task f),
       )
-      (and-same (andThen (fetchAll e (reads ∷ rest) reads [] s) (λ f. runTaskAll e rest reads task f)) (λ t. runRust e table (suc k) moved tasks t) (λ t. allocateAll e tasks t)
+      (and-same (andThen (fetchAll e (reads ∷ rest) reads [] s) (λ f. runTaskAll e rest reads task f)) (λ t. runRust e table (suc k) moved tasks t)
+      (λ t. allocateAll e tasks t)
       (λ t. run-same tasks (suc k) moved t (same ∙ sym (advance-length k reads table indices)) on (omega arith)))
 
 -- tasks read nodes alone
@@ -177,7 +179,8 @@ reads-inside : (e : Setting) (home done : List ℕ) (last : ℕ) (tasks : List T
 unfolding readsOf
 reads-inside e home done last [] o n t = absurd t
 reads-inside e home done last (computeTask m ∷ tasks) o n t =
-    go (or-pass (member n (taskReads (e .nodes) (e .origins) (computeTask m))) (readLater (readsOf e tasks) n) t) (reads-inside e home (m ∷ done) (suc m) tasks (o .3) n)
+    go (or-pass (member n (taskReads (e .nodes) (e .origins) (computeTask m))) (readLater (readsOf e tasks) n) t)
+    (reads-inside e home (m ∷ done) (suc m) tasks (o .3) n)
   where
     go : T (member n (taskReads (e .nodes) (e .origins) (computeTask m))) ⊎ T (readLater (readsOf e tasks) n)
         → (T (readLater (readsOf e tasks) n) → n < length (e .origins)) → n < length (e .origins)
@@ -205,7 +208,8 @@ unfolding allocateRust
 allocate-rust e home tasks ok few =
     let nodes : ℕ = length (e .origins) in
     let table : List (List ℕ) = readTable 0 (readsOf e tasks) (replicate nodes []) in
-    let same : length table ≡ length (replicate nodes zero) = table-length 0 (readsOf e tasks) (replicate nodes []) ∙ (length-replicate nodes [] ∙ sym (length-replicate nodes zero)) in
+    let same : length table ≡ length (replicate nodes zero) = table-length 0 (readsOf e tasks) (replicate nodes [])
+    ∙ (length-replicate nodes [] ∙ sym (length-replicate nodes zero)) in
     let left : Left 0 (readsOf e tasks) table (replicate nodes 0) = left-start nodes (readsOf e tasks) (reads-inside e home [] 0 tasks ok) in
     subst (λ (x : Allocated State). Alike e (allocate e tasks (begin e)) x)
     (sym (run-same e table tasks 0 (replicate nodes 0) (begin e) same left (omega arith)))

@@ -141,6 +141,7 @@ stale-agrees e c i s m own = hide-at c i (e .origins) (s .fresh) m ∙ go (homeO
       where
         at : Dec (m ≡ n) → cond (isLoad c i (originAt (e .origins) m)) false (isFresh s m) ≡ getD (set (s .fresh) n false) m false
         at (yes z) =
-            let is : isLoad c i (originAt (e .origins) n) ≡ true = rw (home-origin (e .origins) c i n q) (is-true (eqb c c && eqb i i) (and-both (eqb c c) (eqb i i) (eqb-refl c) (eqb-refl i))) in
+            let is : isLoad c i (originAt (e .origins) n) ≡ true = rw (home-origin (e .origins) c i n q)
+            (is-true (eqb c c && eqb i i) (and-both (eqb c c) (eqb i i) (eqb-refl c) (eqb-refl i))) in
             rw (z, is, off-at (s .fresh) n)
         at (no z) = rw (miss (suc n) q (λ (y : suc n ≡ suc m). z (omega arith)), getD-set-other (s .fresh) n m false false z)

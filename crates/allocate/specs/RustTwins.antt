@@ -45,7 +45,8 @@ runTaskAll e rest reads (storeTask c i v) g = runStoreAll e rest reads c i g
 unfoldable pub allocateAll : Setting → List Task → State → Allocated State
 allocateAll e [] s = allocated s
 allocateAll e (o ∷ os) s =
-    andThen (andThen (fetchAll e (taskReads (e .nodes) (e .origins) o ∷ readsOf e os) (taskReads (e .nodes) (e .origins) o) [] s) (λ g. runTaskAll e (readsOf e os) (taskReads (e .nodes) (e .origins) o) o g))
+    andThen (andThen (fetchAll e (taskReads (e .nodes) (e .origins) o ∷ readsOf e os) (taskReads (e .nodes) (e .origins) o) [] s)
+    (λ g. runTaskAll e (readsOf e os) (taskReads (e .nodes) (e .origins) o) o g))
     (λ s′. allocateAll e os s′)
 
 -- ---- two states that differ in what is fresh, and not for nodes that can be read
@@ -189,7 +190,8 @@ module _ (e : Setting) (fr : List Bool) where
   fetch-twin rest n locked s t c = go (registerOf s n)
     where
       more : (x : Allocated Taken) → Post (Unit {0}) (λ g. Twin (g .state)) x
-          → TwinTaken (andThen (mapTaken fr x) (λ g. allocated (record { register = g .register; state = bring e n (g .register) (g .state) }))) (andThen x (λ g. allocated (record { register = g .register; state = bring e n (g .register) (g .state) })))
+          → TwinTaken (andThen (mapTaken fr x) (λ g. allocated (record { register = g .register; state = bring e n (g .register) (g .state) })))
+          (andThen x (λ g. allocated (record { register = g .register; state = bring e n (g .register) (g .state) })))
       more (allocated g) k = let w = bring-twin n (g .register) (g .state) k c in ((λ i. allocated (record { register = g .register; state = w .0 i })), w .1)
       more allLocked k = (refl, tt)
 
@@ -210,7 +212,8 @@ module _ (e : Setting) (fr : List Bool) where
     where
       more : (x : Allocated Taken) → Post (Unit {0}) (λ g. Twin (g .state)) x
           → ((l : List ℕ) (a : State) → Twin a → TwinTakenAll (fetchAll e rest ns l (withFresh fr a)) (fetchAll e rest ns l a))
-          → TwinTakenAll (andThen (mapTaken fr x) (λ g. fetchAll e rest ns (locked ++ (g .register ∷ [])) (g .state))) (andThen x (λ g. fetchAll e rest ns (locked ++ (g .register ∷ [])) (g .state)))
+          → TwinTakenAll (andThen (mapTaken fr x) (λ g. fetchAll e rest ns (locked ++ (g .register ∷ [])) (g .state)))
+          (andThen x (λ g. fetchAll e rest ns (locked ++ (g .register ∷ [])) (g .state)))
       more (allocated g) k ih = ih (locked ++ (g .register ∷ [])) (g .state) k
       more allLocked k ih = (refl, tt)
 
@@ -229,7 +232,8 @@ module _ (e : Setting) (fr : List Bool) where
   releaseAll-twin rest (n ∷ ns) s t = go (readLater rest n) (λ a k. releaseAll-twin rest ns a k)
     where
       go : (b : Bool) → ((a : State) → Twin a → (releaseAll e rest ns (withFresh fr a) ≡ withFresh fr (releaseAll e rest ns a)) × Twin (releaseAll e rest ns a))
-          → (releaseAll e rest ns (releaseIf b e n (withFresh fr s)) ≡ withFresh fr (releaseAll e rest ns (releaseIf b e n s))) × Twin (releaseAll e rest ns (releaseIf b e n s))
+          → (releaseAll e rest ns (releaseIf b e n (withFresh fr s)) ≡ withFresh fr (releaseAll e rest ns (releaseIf b e n s))) × Twin
+          (releaseAll e rest ns (releaseIf b e n s))
       go true ih = ih s t
       go false ih =
           let p = release-twin n s t in
@@ -257,7 +261,8 @@ module _ (e : Setting) (fr : List Bool) where
       rw (w .0) (more (resultRegister e rest n (g .registers) (g .state) f) (w .1))
     where
       more : (x : Allocated Taken) → Post (Unit {0}) (λ g. Twin (g .state)) x
-          → TwinState (andThen (mapTaken fr x) (λ t. allocated (releaseAll e rest reads (emitOperation (lower (nodeAt (e .nodes) n) (t .register) (g .registers)) (t .state)))))
+          → TwinState (andThen (mapTaken fr x) (λ t. allocated
+          (releaseAll e rest reads (emitOperation (lower (nodeAt (e .nodes) n) (t .register) (g .registers)) (t .state)))))
           (andThen x (λ t. allocated (releaseAll e rest reads (emitOperation (lower (nodeAt (e .nodes) n) (t .register) (g .registers)) (t .state)))))
       more (allocated a) k =
           let x : Operation = lower (nodeAt (e .nodes) n) (a .register) (g .registers) in
@@ -308,7 +313,8 @@ module _ (e : Setting) where
       record {
         agree = λ n k.
             hide-at c i (e .origins) fr n
-            ∙ (ap (λ (b : Bool). cond (isLoad c i (originAt (e .origins) n)) false b) (t .agree n k) ∙ (sym (hide-at c i (e .origins) (s .fresh) n) ∙ stale-agrees e c i s n k));
+            ∙ (ap (λ (b : Bool). cond (isLoad c i (originAt (e .origins) n)) false b) (t .agree n k)
+            ∙ (sym (hide-at c i (e .origins) (s .fresh) n) ∙ stale-agrees e c i s n k));
         own = λ r n h. t .own r n (same (homeOf (e .origins) c i) r n h);
       }
     where
@@ -330,7 +336,8 @@ module _ (e : Setting) where
       rw (preserve-same e rest own (homeCode c) i (g .registers) (withFresh fr (g .state)), w .0) (more (preserve e rest (g .registers) (g .state) h) (w .1))
     where
       more : (x : Allocated State) → Post (Unit {0}) (Twin e fr) x
-          → Alike e (andThen x (λ s. allocated (releaseAll e rest reads (stale (homeOf (e .origins) (homeCode c) i) (emit (storeAction c i (getD (g .registers) 0 0)) s)))))
+          → Alike e (andThen x (λ s. allocated (releaseAll e rest reads
+          (stale (homeOf (e .origins) (homeCode c) i) (emit (storeAction c i (getD (g .registers) 0 0)) s)))))
           (andThen (mapState fr x) (λ s. allocated (releaseAll e rest reads (hideAll e (homeCode c) i (emit (storeAction c i (getD (g .registers) 0 0)) s)))))
       more (allocated a) k =
           let h : ℕ = homeOf (e .origins) (homeCode c) i in
@@ -338,8 +345,12 @@ module _ (e : Setting) where
           let p = emit-twin e fr x a k in
           let fr′ : List Bool = hideLoads (homeCode c) i (e .origins) fr in
           let z = hidden fr (homeCode c) i (emit x a) (p .1) in
-          let q = releaseAll-twin e fr′ rest reads (stale h (emit x a)) z in
-          (fr′, ap (λ (s : State). releaseAll e rest reads (hideAll e (homeCode c) i s)) (p .0) ∙ (ap (releaseAll e rest reads) (hide-same fr (homeCode c) i h (emit x a)) ∙ q .0), q .1)
+          let q = releaseAll-twin e fr′ rest reads (stale h (emit x a)) z in (
+            fr′,
+            ap (λ (s : State). releaseAll e rest reads (hideAll e (homeCode c) i s)) (p .0)
+                ∙ (ap (releaseAll e rest reads) (hide-same fr (homeCode c) i h (emit x a)) ∙ q .0),
+            q .1,
+          )
       more allLocked k = tt
 
   task-alike : (rest : List (List ℕ)) (reads : List ℕ) (o : Task) (fr : List Bool) (g : TakenAll) → OwnReads e rest
@@ -375,7 +386,8 @@ module _ (e : Setting) where
       last allLocked allLocked k ih = tt
 
       next : (x : Allocated TakenAll) → Post (Unit {0}) (λ g. Twin e fr (g .state)) x
-          → ((g : TakenAll) → Twin e fr (g .state) → Alike e (runTask e (readsOf e os) (taskReads (e .nodes) (e .origins) o) o g) (runTaskAll e (readsOf e os) (taskReads (e .nodes) (e .origins) o) o (withFreshAll e fr g)))
+          → ((g : TakenAll) → Twin e fr (g .state) → Alike e (runTask e (readsOf e os) (taskReads (e .nodes) (e .origins) o) o g)
+          (runTaskAll e (readsOf e os) (taskReads (e .nodes) (e .origins) o) o (withFreshAll e fr g)))
           → ((fr′ : List Bool) (a : State) → Twin e fr′ a → Alike e (allocate e os a) (allocateAll e os (withFresh fr′ a)))
           → Alike e (andThen (andThen x (λ g. runTask e (readsOf e os) (taskReads (e .nodes) (e .origins) o) o g)) (λ s′. allocate e os s′))
           (andThen (andThen (mapTakenAll fr x) (λ g. runTaskAll e (readsOf e os) (taskReads (e .nodes) (e .origins) o) o g)) (λ s′. allocateAll e os s′))
@@ -406,4 +418,5 @@ module _ (e : Setting) where
   -- from the start, the allocator with the Rust's loops gives the same
   pub allocate-same : (home done : List ℕ) (last : ℕ) (os : List Task) → TasksOk e home done last os → Alike e (allocate e os (begin e)) (allocateAll e os (begin e))
   allocate-same home done last os o =
-      subst (λ (z : State). Alike e (allocate e os (begin e)) (allocateAll e os z)) same-start (run-alike os (plain-of home done last os o) ((begin e) .fresh) (begin e) twin-begin)
+      subst (λ (z : State). Alike e (allocate e os (begin e)) (allocateAll e os z)) same-start
+      (run-alike os (plain-of home done last os o) ((begin e) .fresh) (begin e) twin-begin)

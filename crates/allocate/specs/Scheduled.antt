@@ -77,7 +77,8 @@ module _ (ns : List Node) (ss : List Origin) (registers home : List ℕ) (inCont
 
   module _ (comps : List ℕ) (ord : Ordered ns)
       (comp-src : (n : ℕ) → T (member n comps) → (n < length ss) × (originAt ss n ≡ noOrigin))
-      (comp-ops : (n a : ℕ) → T (member n comps) → T (member a (operands (nodeAt ns n))) → (a < length ss) × (T (hasOrigin (originAt ss a)) ⊎ ((originAt ss a ≡ noOrigin) × T (member a comps))))
+      (comp-ops : (n a : ℕ) → T (member n comps) → T (member a (operands (nodeAt ns n))) → (a < length ss)
+      × (T (hasOrigin (originAt ss a)) ⊎ ((originAt ss a ≡ noOrigin) × T (member a comps))))
     where
       -- done and rest are the two parts of comps, in order
       pub record Parts (done rest : List ℕ) (k : ℕ) : Type 0 where
@@ -168,7 +169,8 @@ module _ (ns : List Node) (ss : List Origin) (registers home : List ℕ) (inCont
             rw (append-assoc (tasksOf ws′) (scheduleFrom ns ss ws rest) os)
                 (writes-ok (n ∷ done) ws′ (scheduleFrom ns ss ws rest ++ os)
                 (all-filter (λ w. Value (w .value)) (λ w. Usable (n ∷ done) (w .value)) (λ w. waits ns ss w n && not (anyOf (waits ns ss w) rest)) ws a
-                (λ w vw z. value-usable (n ∷ done) rest (suc n) (w .value) q vw (waits-value w rest (not-true (anyOf (waits ns ss w) rest) (both (waits ns ss w n) (not (anyOf (waits ns ss w) rest)) z .1)))))
+                (λ w vw z. value-usable (n ∷ done) rest (suc n) (w .value) q vw
+                (waits-value w rest (not-true (anyOf (waits ns ss w) rest) (both (waits ns ss w n) (not (anyOf (waits ns ss w) rest)) z .1)))))
                 (λ last. schedule-from-ok ws os a fin rest (n ∷ done) (suc n) last q)
                 (suc n)),
           )
@@ -183,7 +185,8 @@ module _ (ns : List Node) (ss : List Origin) (registers home : List ℕ) (inCont
           writes-ok [] ws′ (scheduleFrom ns ss ws comps ++ (storeTask 12 0 out ∷ []))
           (all-filter (λ w. Value (w .value)) (λ w. Usable [] (w .value)) (λ w. not (anyOf (waits ns ss w) comps)) ws a
           (λ w vw z. value-usable [] comps 0 (w .value) p0 vw (waits-value w comps (not-true (anyOf (waits ns ss w) comps) z))))
-          (λ last. schedule-from-ok ws (storeTask 12 0 out ∷ []) a (λ done k last p. (reads-write done 12 0 out (value-usable done [] k out p vo (λ t. t)), tt)) comps [] 0 last p0)
+          (λ last. schedule-from-ok ws (storeTask 12 0 out ∷ []) a (λ done k last p. (reads-write done 12 0 out (value-usable done [] k out p vo (λ t. t)), tt))
+          comps [] 0 last p0)
           0
 
       -- the control phase's computations that are left
@@ -220,7 +223,11 @@ module _ (b : Flow) (v : GoodFlow b) where
   unfolding writes
   sample-tasks-ok registers =
       schedule-ok (b .nodes) (ss b v) registers [] false 0 (comps b v) (v .ord)
-      (λ n t. let c = comps-in b v n t in (rw (sample-length (slots b v) (b .nodes)) (c .0), no-origin (originAt (ss b v) n) (un-not (hasOrigin (originAt (ss b v) n)) (c .2))))
+      (λ n t. let c = comps-in b v n t in (
+        rw (sample-length (slots b v) (b .nodes)) (c .0),
+        no-origin (originAt (ss b v) n)
+            (un-not (hasOrigin (originAt (ss b v) n)) (c .2)),
+      ))
       (λ n a t u. let c = comps-in b v n t in value b v a (omega (arith, v .ord n a u, c .0)) (need-closed b v n a (c .0) (c .1) (comp-plain b v n t) u))
       (writes b) (b .output)
       (all-append b v _ (writesFrom 10 0 (b .states)) (writesFrom 11 0 (b .delays))
@@ -234,7 +241,11 @@ module _ (b : Flow) (v : GoodFlow b) where
       → TasksOk (settingOf (b .nodes) (cs b v) registers (slots b v) true fixed) (slots b v) [] 0 (controlTasks (slots b v) (ccomps b v))
   control-tasks-ok registers fixed =
       control-all-ok (b .nodes) (cs b v) registers (slots b v) true fixed (ccomps b v) (v .ord)
-      (λ n t. let c = ccomps-in b v n t in (rw (length-map (b .nodes) controlOrigin) (c .0), control-at (b .nodes) n (c .0) ∙ control-computed (nodeAt (b .nodes) n) (c .2)))
+      (λ n t. let c = ccomps-in b v n t in (
+        rw (length-map (b .nodes) controlOrigin) (c .0),
+        control-at (b .nodes) n (c .0) ∙ control-computed
+            (nodeAt (b .nodes) n) (c .2),
+      ))
       (λ n a t u.
       let c = ccomps-in b v n t in
       let l : a < length (b .nodes) = omega (arith, v .ord n a u, c .0) in

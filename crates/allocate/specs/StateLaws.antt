@@ -69,8 +69,10 @@ take-view e rest n locked s = go (firstOf (λ r. isNone (ownerOf s r)) (e .regis
     go₂ : (b : ℕ) → best (evictKey rest s) xs ≡ b → firstOf (λ r. isNone (ownerOf s r)) (e .registers) ≡ 0 → TakeView e n locked s (takeBest e n s b)
     go₂ zero q h = none
     go₂ (suc r) q h =
-        let m : T (member r (e .registers)) × T (not (member r locked)) = filter-member (λ r. not (member r locked)) (e .registers) r (best-member (evictKey rest s) xs r q) in
-        evicted r (pred (ownerOf s r)) (isZero-suc (ownerOf s r) (first-zero (λ r. isNone (ownerOf s r)) (e .registers) r h (m .0))) (m .0) (not-T (member r locked) (m .1))
+        let m : T (member r (e .registers)) × T (not (member r locked)) = filter-member (λ r. not (member r locked)) (e .registers) r
+        (best-member (evictKey rest s) xs r q) in
+        evicted r (pred (ownerOf s r)) (isZero-suc (ownerOf s r) (first-zero (λ r. isNone (ownerOf s r)) (e .registers) r h (m .0))) (m .0)
+        (not-T (member r locked) (m .1))
 
     go : (f : ℕ) → firstOf (λ r. isNone (ownerOf s r)) (e .registers) ≡ f → TakeView e n locked s (takeFree e rest n locked s f)
     go zero q = go₂ (best (evictKey rest s) xs) refl q
@@ -130,7 +132,8 @@ module _ (e : Setting) (home : List ℕ) (wf : Sixteen e) where
       → Good e home (place n r s)
   unfolding place
   good-place n r s g hr hn ln mr =
-      let placed : Regs (e .registers) (set (s .holder) n (suc r)) (set (s .owner) r (suc n)) = regs-place (e .registers) (s .holder) (s .owner) (g .registers) n r hr hn (omega (arith, g .holders)) (omega (arith, g .owners, wf .small r mr)) mr in
+      let placed : Regs (e .registers) (set (s .holder) n (suc r)) (set (s .owner) r (suc n)) = regs-place (e .registers) (s .holder) (s .owner) (g .registers)
+      n r hr hn (omega (arith, g .holders)) (omega (arith, g .owners, wf .small r mr)) mr in
       record {
         registers = placed;
         slots = g .slots;
@@ -139,7 +142,9 @@ module _ (e : Setting) (home : List ℕ) (wf : Sixteen e) where
         spilleds = g .spilleds;
         freshes = g .freshes;
         src = g .src;
-        held = max-le (s .most) (count (set (s .owner) r (suc n))) (length (e .registers)) (g .held) (owners-count (e .registers) (set (s .owner) r (suc n)) (wf .ascending) (λ q m h. placed .inside m q h));
+        held =
+            max-le (s .most) (count (set (s .owner) r (suc n))) (length (e .registers)) (g .held)
+            (owners-count (e .registers) (set (s .owner) r (suc n)) (wf .ascending) (λ q m h. placed .inside m q h));
       }
 
   -- a register is given up

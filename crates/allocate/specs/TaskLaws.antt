@@ -110,7 +110,8 @@ module _ (e : Setting) (home : List ℕ) (wf : Sixteen e) (done : List ℕ) (res
   pub compute-next : (reads : List ℕ) (n : ℕ) (s : State) (g : TakenAll) → Invariant e home done (reads ∷ rest) s → ReadsOk e done reads
       → n < length (e .origins) → (T (known e done n) → ⊥)
       → FetchedAll e home [] reads s g
-      → Post (Unit {0}) (λ s′. Next e home (n ∷ done) rest (2 * length reads + 2) s s′ × (T (readLater rest n) → T (isSome (registerOf s′ n)))) (runCompute e rest reads n g)
+      → Post (Unit {0}) (λ s′. Next e home (n ∷ done) rest (2 * length reads + 2) s s′ × (T (readLater rest n) → T (isSome (registerOf s′ n))))
+      (runCompute e rest reads n g)
   unfolding runCompute
   compute-next reads n s g i rd ln new f =
       post-bind (Unit {0}) (Aimed e home rest n (g .state)) _ (resultRegister e rest n (g .registers) (g .state) (firstOf (λ d. not (readLater rest d)) reads)) _
@@ -118,18 +119,22 @@ module _ (e : Setting) (home : List ℕ) (wf : Sixteen e) (done : List ℕ) (res
       (λ t k. last t k (lower (nodeAt (e .nodes) n) (t .register) (g .registers)))
     where
       last : (t : Taken) → Aimed e home rest n (g .state) t → (x : Operation)
-          → Next e home (n ∷ done) rest (2 * length reads + 2) s (releaseAll e rest reads (emitOperation x (t .state))) × (T (readLater rest n) → T (isSome (registerOf (releaseAll e rest reads (emitOperation x (t .state))) n)))
+          → Next e home (n ∷ done) rest (2 * length reads + 2) s (releaseAll e rest reads (emitOperation x (t .state)))
+          × (T (readLater rest n) → T (isSome (registerOf (releaseAll e rest reads (emitOperation x (t .state))) n)))
       last t k x =
           let u : State = emitOperation x (t .state) in
           let b : Brought (t .state) u = brought-operation x (t .state) in
-          let l : Good e home (releaseAll e rest reads u) × Let rest u (releaseAll e rest reads u) = releaseAll-let e home wf rest reads u (b .good e home (k .good)) in
+          let l : Good e home (releaseAll e rest reads u) × Let rest u (releaseAll e rest reads u) = releaseAll-let
+          e home wf rest reads u (b .good e home (k .good)) in
           let hu : registerOf u n ≡ suc (t .register) = rw (b .holder) (k .held) in
           let hot : T (readLater rest n) → T (isSome (registerOf (releaseAll e rest reads u) n)) = λ y. rw (l .1 .hold n y, hu) tt in (
             record {
               inv =
                   record {
                     good = l .0;
-                    ready = λ m y z. ready m y (known-cases e n done m z) hot (λ a. l .1 .keep m y (keeps-brought [] (t .state) u b .keep m (k .keep m y (f .keep m a))));
+                    ready =
+                        λ m y z. ready m y (known-cases e n done m z) hot
+                        (λ a. l .1 .keep m y (keeps-brought [] (t .state) u b .keep m (k .keep m y (f .keep m a))));
                     held = λ m q h. heldk m q (k .only m q (rw (b .holder) at (l .1 .only m q h)));
                   };
               grow = rw (l .1 .steps) (omega (arith, b .grow, k .grow, f .grow));
@@ -174,7 +179,9 @@ module _ (e : Setting) (home : List ℕ) (wf : Sixteen e) (done : List ℕ) (res
       let l : Good e home (releaseAll e rest reads u) × Let rest u (releaseAll e rest reads u) = releaseAll-let e home wf rest reads u gu in (
         record {
           good = l .0;
-          ready = λ m y z. l .1 .keep m y (slotted (isSome (registerOf a m)) (a .spilled) v k m (isFresh a m) (keeps-brought [] (g .state) a b .keep m (f .keep m (i .ready m (or-second (member m reads) (readLater rest m) y) z))));
+          ready =
+              λ m y z. l .1 .keep m y (slotted (isSome (registerOf a m)) (a .spilled) v k m (isFresh a m)
+              (keeps-brought [] (g .state) a b .keep m (f .keep m (i .ready m (or-second (member m reads) (readLater rest m) y) z))));
           held = λ m q h. fetched-known reads s g i rd f m q (rw (b .holder) at (l .1 .only m q h));
         },
         rw (l .1 .steps) (b .grow),
@@ -210,7 +217,15 @@ module _ (e : Setting) (home : List ℕ) (wf : Sixteen e) (rest : List (List ℕ
   pub preserve-saved : (locked : List ℕ) (s : State) → Good e home s → (h : ℕ) → ((n : ℕ) → h ≡ suc n → n < length (e .origins))
       → Post (Unit {0}) (Saved e home rest locked h s) (preserve e rest locked s h)
   preserve-saved locked s g zero ln =
-      record { good = g; keeps = record { keep = λ m t. t; lock = λ m q h t. h }; only = λ m q h. inr h; grow = omega arith; fresh = refl; safe = λ n q. absurd (omega arith) }
+      record {
+        good = g;
+        keeps = record { keep = λ m t. t; lock = λ m q h t. h };
+        only = λ m q h. inr h;
+        grow = omega arith;
+        fresh = refl;
+        safe = λ n q. absurd
+            (omega arith);
+      }
   preserve-saved locked s g (suc n) ln = go (isFresh s n && readLater rest n) refl
     where
       go : (b : Bool) → (isFresh s n && readLater rest n) ≡ b → Post (Unit {0}) (Saved e home rest locked (suc n) s) (preserveIf b e rest n locked s)
@@ -224,7 +239,8 @@ module _ (e : Setting) (home : List ℕ) (wf : Sixteen e) (rest : List (List ℕ
             safe = λ m z t u. absurd (rw q at (and-both (isFresh s n) (readLater rest n) (rw (suc-inj z) u) (rw (suc-inj z) t)));
           }
       go true q =
-          post-bind (Unit {0}) (Fetched e home n locked s) (Saved e home rest locked (suc n) s) (fetch e rest n locked s) _ (fetch-fetched e home wf rest n locked s g (ln n refl)) (λ t k.
+          post-bind (Unit {0}) (Fetched e home n locked s) (Saved e home rest locked (suc n) s) (fetch e rest n locked s) _
+          (fetch-fetched e home wf rest n locked s g (ln n refl)) (λ t k.
           record {
             good = k .good;
             keeps = k .keeps;
@@ -263,7 +279,18 @@ module _ (e : Setting) (home : List ℕ) (wf : Sixteen e) (rest : List (List ℕ
   stales zero s = record { good = λ g. g; holder = refl; steps = refl; keep = λ m f t. t }
   stales (suc n) s =
       record {
-        good = λ g. record { registers = g .registers; slots = g .slots; holders = g .holders; owners = g .owners; spilleds = g .spilleds; freshes = rw length-set (g .freshes); src = stale-src s n g; held = g .held };
+        good =
+            λ g. record {
+              registers = g .registers;
+              slots = g .slots;
+              holders = g .holders;
+              owners = g .owners;
+              spilleds = g .spilleds;
+              freshes = rw length-set
+                  (g .freshes);
+              src = stale-src s n g;
+              held = g .held;
+            };
         holder = refl;
         steps = refl;
         keep = λ m f t. stale-keep (s .fresh) n (isSome (registerOf s m)) (isSome (slotOf s m)) m (λ z u. f n refl z u) t;
@@ -278,7 +305,8 @@ module _ (e : Setting) (home : List ℕ) (wf : Sixteen e) (done : List ℕ) (res
   unfolding runStore
   store-next reads c i₀ s g i rd hh f =
       let h : ℕ = homeOf (e .origins) (homeCode c) i₀ in
-      post-bind (Unit {0}) (Saved e home rest (g .registers) h (g .state)) (Next e home done rest (2 * length reads + 3) s) (preserve e rest (g .registers) (g .state) h) _
+      post-bind (Unit {0}) (Saved e home rest (g .registers) h (g .state)) (Next e home done rest (2 * length reads + 3) s)
+      (preserve e rest (g .registers) (g .state) h) _
       (preserve-saved e home wf rest (g .registers) (g .state) (f .good) h (λ n q. hh n q .0))
       (λ t k. last h t k hh (storeAction c i₀ (getD (g .registers) 0 0)))
     where
@@ -290,7 +318,8 @@ module _ (e : Setting) (home : List ℕ) (wf : Sixteen e) (done : List ℕ) (res
           let b : Brought t a = brought-emit x t in
           let u : State = stale h a in
           let z : Staled e home wf rest h a u = stales e home wf rest h a in
-          let l : Good e home (releaseAll e rest reads u) × Let rest u (releaseAll e rest reads u) = releaseAll-let e home wf rest reads u (z .good (b .good e home (k .good))) in
+          let l : Good e home (releaseAll e rest reads u) × Let rest u (releaseAll e rest reads u) = releaseAll-let
+          e home wf rest reads u (z .good (b .good e home (k .good))) in
           record {
             inv =
                 record {

@@ -91,7 +91,15 @@ draft-fits b mask d f =
     let all : List Action = d .controlSteps ++ d .sampleSteps in
     let l : length all ≡ length (d .controlSteps) + length (d .sampleSteps) = length-append (d .controlSteps) (d .sampleSteps) in
     record {
-      steps = omega (arith, f .steps, flow-length (graphOf b), list-length (mappedUpdate b (b .states)) (stateCount b), list-length (mappedUpdate b (b .delays)) (delayCount b));
+      steps =
+          omega (
+            arith,
+            f .steps,
+            flow-length (graphOf b),
+            list-length (mappedUpdate b (b .states)) (stateCount b),
+            list-length (mappedUpdate b (b .delays))
+                (delayCount b),
+          );
       instructions = omega (arith, operations-le all, l);
       stepTable = steps-length 0 all ∙ ap (λ (n : ℕ). 2 * n) l;
       instructionTable = instructions-length (operationsIn all);

@@ -51,7 +51,8 @@ draftOf control sample =
 unfoldable pub compilePlan : Flow → Plan → ℕ → Allocated Draft
 compilePlan flow plan mask =
     andThen (allocate (controlSetting flow plan mask) (plan .controlTasks) (begin (controlSetting flow plan mask)))
-    (λ control. andThen (allocate (sampleSetting flow plan mask) (plan .sampleTasks) (begin (sampleSetting flow plan mask))) (λ sample. allocated (draftOf control sample)))
+    (λ control. andThen (allocate (sampleSetting flow plan mask) (plan .sampleTasks) (begin (sampleSetting flow plan mask)))
+    (λ sample. allocated (draftOf control sample)))
 
 -- codegen.rs: `compile_with`
 unfoldable pub compileFlow : Flow → ℕ → Allocated Draft

@@ -118,58 +118,93 @@ kernelE =
 
 -- ---- by computation
 
--- `unfolding everything` opens all of compile's definitions
-unfoldable everything : ℕ
-unfolding compile compileFlow compilePlan controlSetting sampleSetting draftOf usable compiledOf stepWord roots invariants sweep hoistable neededBy homesOf controlComputations controlOrigin nodeOrigin sampleOrigin homeOf canonicalAs canonical taskReads waits scheduleFrom schedule sampleComputations writes planOf nodeOf flowOf sourceOf loadAction storeAction emit toSlot fromSlot spillOut place vacate release begin evict evictKey takeRegister bringFrom bring fetch fetchAll releaseAll lend runCompute setSlot runKeep stale runStore runTask allocateTask readsOf allocate graphOf expandTo expandNode kindOf nodeLength Loops.sum listOf
-everything = 0
+-- `unfolding compiling` opens all of compile's definitions, `unfolding judging` all of validation's
+unfoldable expanding : ℕ
+unfolding graphOf expandTo expandNode kindOf nodeLength Loops.sum listOf nodeOf flowOf
+expanding = 0
+
+unfoldable planning : ℕ
+unfolding roots invariants sweep hoistable neededBy homesOf controlComputations controlOrigin nodeOrigin sampleOrigin homeOf canonicalAs canonical
+planning = 0
+
+unfoldable scheduling : ℕ
+unfolding taskReads waits scheduleFrom schedule sampleComputations writes planOf
+scheduling = 0
+
+unfoldable changing : ℕ
+unfolding sourceOf loadAction storeAction emit toSlot fromSlot spillOut place vacate release begin lend setSlot stale
+changing = 0
+
+unfoldable allocating : ℕ
+unfolding evict evictKey takeRegister bringFrom bring fetch fetchAll releaseAll runCompute runKeep runStore runTask allocateTask readsOf allocate
+allocating = 0
+
+unfoldable writing : ℕ
+unfolding compile compileFlow compilePlan controlSetting sampleSetting draftOf usable compiledOf stepWord kernel
+writing = 0
+
+unfoldable compiling : ℕ
+unfolding expanding planning scheduling changing allocating writing
+compiling = 0
 
 compiled-A : compile (graphOf blockA) 0xffff ≡ allocated kernelA
-unfolding everything kernel blockA kernelA
+unfolding compiling blockA kernelA
 compiled-A = refl
 
 compiled-C : compile (graphOf blockC) 0xffff ≡ allocated kernelC
-unfolding everything kernel blockC kernelC
+unfolding compiling blockC kernelC
 compiled-C = refl
 
 locked-C : compile (graphOf blockC) 1 ≡ allLocked
-unfolding everything blockC
+unfolding compiling blockC
 locked-C = refl
 
 locked-D : compile (graphOf blockD) 3 ≡ allLocked
-unfolding everything blockD
+unfolding compiling blockD
 locked-D = refl
 
 compiled-D : compile (graphOf blockD) 7 ≡ allocated kernelD
-unfolding everything kernel blockD kernelD
+unfolding compiling blockD kernelD
 compiled-D = refl
 
 compiled-E : compile (graphOf blockE) 0xffff ≡ allocated kernelE
-unfolding everything kernel blockE kernelE
+unfolding compiling blockE kernelE
 compiled-E = refl
 
--- `unfolding judged` opens all of validation's definitions
-unfoldable judged : ℕ
-unfolding validation recordsAnswer malformed malformedNode malformedHeader unknownVersion networkNotAllowed networkFlagClear needsVersionTwo tooLarge parameterAnswer operandNotBelow wordsAnswer nodeAnswer stateAnswer delayAnswer kindOf nodeLength codeNeedsTwo categoryNeedsTwo Loops.sum Loops.some _⨾_ refuse refuseAt inOrder spanIsValid validSpan within isFinite floatOf sub le Ieee.sum round neg odd units size span climb trailingZeros ofFields ofBits
-judged = 0
+unfoldable floating : ℕ
+unfolding spanIsValid validSpan within isFinite floatOf sub le Ieee.sum round neg odd units size span climb trailingZeros ofFields ofBits
+floating = 0
+
+unfoldable scanning : ℕ
+unfolding malformedNode malformedHeader codeNeedsTwo categoryNeedsTwo kindOf nodeLength Loops.sum Loops.some _⨾_ refuse refuseAt inOrder
+scanning = 0
+
+unfoldable answering : ℕ
+unfolding validation recordsAnswer malformed unknownVersion networkNotAllowed networkFlagClear needsVersionTwo tooLarge parameterAnswer
+answering = 0
+
+unfoldable judging : ℕ
+unfolding floating scanning answering operandNotBelow wordsAnswer nodeAnswer stateAnswer delayAnswer
+judging = 0
 
 valid-A : validation blockA ≡ accepted tt
-unfolding judged blockA
+unfolding judging blockA
 valid-A = refl
 
 valid-C : validation blockC ≡ accepted tt
-unfolding judged blockC
+unfolding judging blockC
 valid-C = refl
 
 valid-D : validation blockD ≡ accepted tt
-unfolding judged blockD
+unfolding judging blockD
 valid-D = refl
 
 valid-E : validation blockE ≡ accepted tt
-unfolding judged blockE
+unfolding judging blockE
 valid-E = refl
 
 refused-I : validation blockI ≡ refused 8 []
-unfolding judged blockI
+unfolding judging blockI
 refused-I = refl
 
 -- ---- as calls, in tables that are long enough

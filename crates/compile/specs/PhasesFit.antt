@@ -70,26 +70,32 @@ module _ (b : Flow) (v : GoodFlow b) where
             let c : T (getD (cneed b v) n false) = and-first (getD (cneed b v) n false) (isComputed (nodeAt (b .nodes) n)) tp in
             let i = cneed-inv b v n c in
             T-not (hoistable (b .nodes) (inv b v) n)
-            (comp-plain b v n (in-comps b v n (i .0) (and-first (getD (need b v) n false) (not (hasOrigin (originAt (ss b v) n))) tq) (and-second (getD (need b v) n false) (not (hasOrigin (originAt (ss b v) n))) tq)))
-            (and-both (getD (inv b v) n false) (isComputed (nodeAt (b .nodes) n)) (i .1) (and-second (getD (cneed b v) n false) (isComputed (nodeAt (b .nodes) n)) tp))),
+            (comp-plain b v n (in-comps b v n (i .0) (and-first (getD (need b v) n false) (not (hasOrigin (originAt (ss b v) n))) tq)
+            (and-second (getD (need b v) n false) (not (hasOrigin (originAt (ss b v) n))) tq)))
+            (and-both (getD (inv b v) n false) (isComputed (nodeAt (b .nodes) n)) (i .1)
+            (and-second (getD (cneed b v) n false) (isComputed (nodeAt (b .nodes) n)) tp))),
       )
 
   -- the control phase's run
   pub control-ran : (mask : ℕ)
-      → Post (Unit {0}) (Ran (controlSetting b (planOf b) mask) (slots b v) (costs ((planOf b) .controlTasks)) (begin (controlSetting b (planOf b) mask))) (allocate (controlSetting b (planOf b) mask) ((planOf b) .controlTasks) (begin (controlSetting b (planOf b) mask)))
+      → Post (Unit {0}) (Ran (controlSetting b (planOf b) mask) (slots b v) (costs ((planOf b) .controlTasks)) (begin (controlSetting b (planOf b) mask)))
+      (allocate (controlSetting b (planOf b) mask) ((planOf b) .controlTasks) (begin (controlSetting b (planOf b) mask)))
   unfolding planOf controlSetting
   control-ran mask =
       let e : Setting = settingOf (b .nodes) (cs b v) (usable mask) (slots b v) true (count (slots b v)) in
-      run-ran e (slots b v) (record { small = member-usable mask; ascending = usable-ascending mask }) (number-ok (homes b v)) (controlTasks (slots b v) (ccomps b v)) [] 0 (begin e)
+      run-ran e (slots b v) (record { small = member-usable mask; ascending = usable-ascending mask }) (number-ok (homes b v))
+      (controlTasks (slots b v) (ccomps b v)) [] 0 (begin e)
       (control-tasks-ok b v (usable mask) (count (slots b v))) (begin-inv e (slots b v) _) (λ w q t. absurd (omega arith))
 
   -- the sample phase's run
   pub sample-ran : (mask : ℕ)
-      → Post (Unit {0}) (Ran (sampleSetting b (planOf b) mask) [] (costs ((planOf b) .sampleTasks)) (begin (sampleSetting b (planOf b) mask))) (allocate (sampleSetting b (planOf b) mask) ((planOf b) .sampleTasks) (begin (sampleSetting b (planOf b) mask)))
+      → Post (Unit {0}) (Ran (sampleSetting b (planOf b) mask) [] (costs ((planOf b) .sampleTasks)) (begin (sampleSetting b (planOf b) mask)))
+      (allocate (sampleSetting b (planOf b) mask) ((planOf b) .sampleTasks) (begin (sampleSetting b (planOf b) mask)))
   unfolding planOf sampleSetting
   sample-ran mask =
       let e : Setting = settingOf (b .nodes) (ss b v) (usable mask) [] false 0 in
-      run-ran e [] (record { small = member-usable mask; ascending = usable-ascending mask }) (record { lt = λ n k h. absurd (omega arith); inj = λ m l k h g. absurd (omega arith) })
+      run-ran e [] (record { small = member-usable mask; ascending = usable-ascending mask })
+      (record { lt = λ n k h. absurd (omega arith); inj = λ m l k h g. absurd (omega arith) })
       (schedule (b .nodes) (ss b v) (writes b) (comps b v) (b .output)) [] 0 (begin e)
       (sample-tasks-ok b v (usable mask)) (begin-inv e [] _) (λ w q t. absurd (omega arith))
 
@@ -118,7 +124,8 @@ module _ (b : Flow) (v : GoodFlow b) where
   slots-numbered = omega (arith, count-le (slots b v), number-length 0 (homes b v), homes-length b v)
 
   control-fits : (mask : ℕ)
-      → let e : Setting = controlSetting b (planOf b) mask in Post (Unit {0}) (PhaseFits mask (7 * length (ccomps b v)) (length (b .nodes))) (allocate e ((planOf b) .controlTasks) (begin e))
+      → let e : Setting = controlSetting b (planOf b) mask in Post (Unit {0}) (PhaseFits mask (7 * length (ccomps b v)) (length (b .nodes)))
+      (allocate e ((planOf b) .controlTasks) (begin e))
   unfolding controlSetting planOf
   control-fits mask =
       let e : Setting = controlSetting b (planOf b) mask in
@@ -131,7 +138,8 @@ module _ (b : Flow) (v : GoodFlow b) where
       })
 
   sample-fits : (mask : ℕ)
-      → let e : Setting = sampleSetting b (planOf b) mask in Post (Unit {0}) (PhaseFits mask (6 * length (comps b v) + 5 * (length (b .states) + length (b .delays) + 1)) 0) (allocate e ((planOf b) .sampleTasks) (begin e))
+      → let e : Setting = sampleSetting b (planOf b) mask in Post (Unit {0})
+      (PhaseFits mask (6 * length (comps b v) + 5 * (length (b .states) + length (b .delays) + 1)) 0) (allocate e ((planOf b) .sampleTasks) (begin e))
   unfolding sampleSetting planOf
   sample-fits mask =
       let e : Setting = sampleSetting b (planOf b) mask in
@@ -149,8 +157,10 @@ module _ (b : Flow) (v : GoodFlow b) where
   flow-fits mask =
       let c : Setting = controlSetting b (planOf b) mask in
       let s : Setting = sampleSetting b (planOf b) mask in
-      post-bind (Unit {0}) (PhaseFits mask (7 * length (ccomps b v)) (length (b .nodes))) _ (allocate c ((planOf b) .controlTasks) (begin c)) _ (control-fits mask) (λ x p.
-      post-bind (Unit {0}) (PhaseFits mask (6 * length (comps b v) + 5 * (length (b .states) + length (b .delays) + 1)) 0) _ (allocate s ((planOf b) .sampleTasks) (begin s)) _ (sample-fits mask) (λ y q.
+      post-bind (Unit {0}) (PhaseFits mask (7 * length (ccomps b v)) (length (b .nodes))) _ (allocate c ((planOf b) .controlTasks) (begin c)) _
+      (control-fits mask) (λ x p.
+      post-bind (Unit {0}) (PhaseFits mask (6 * length (comps b v) + 5 * (length (b .states) + length (b .delays) + 1)) 0) _
+      (allocate s ((planOf b) .sampleTasks) (begin s)) _ (sample-fits mask) (λ y q.
       record {
         steps = omega (arith, p .steps, q .steps, phases);
         slots = omega (arith, p .slots);

@@ -118,7 +118,8 @@ position-is : (v k : ℕ) (comps t : List ℕ) → v < length t → getD (positi
 position-is v k [] t h = refl
 position-is v k (n ∷ comps) t h =
     position-is v (suc k) comps (set t n (suc k)) (rw length-set h)
-    ∙ (ap (orElse (lastAt (λ n. eqb n v) (suc k) comps)) (go (ℕ-discrete v n)) ∙ sym (orElse-assoc (lastAt (λ n. eqb n v) (suc k) comps) (cond (eqb n v) (suc k) 0) (getD t v 0)))
+    ∙ (ap (orElse (lastAt (λ n. eqb n v) (suc k) comps)) (go (ℕ-discrete v n)) ∙ sym
+    (orElse-assoc (lastAt (λ n. eqb n v) (suc k) comps) (cond (eqb n v) (suc k) 0) (getD t v 0)))
   where
     go : Dec (v ≡ n) → getD (set t n (suc k)) v 0 ≡ orElse (cond (eqb n v) (suc k) 0) (getD t v 0)
     go (yes z) =
@@ -154,7 +155,8 @@ module _ (ns : List Node) where
   read-is v k (n ∷ comps) t h =
       let p : ℕ → Bool = λ n. member v (operands (nodeAt ns n)) in
       read-is v (suc k) comps (setEach (operands (nodeAt ns n)) (suc k) t) (rw (set-each-length (operands (nodeAt ns n)) (suc k) t) h)
-      ∙ (ap (orElse (lastAt p (suc k) comps)) (set-each-at (operands (nodeAt ns n)) k t v h) ∙ sym (orElse-assoc (lastAt p (suc k) comps) (cond (p n) (suc k) 0) (getD t v 0)))
+      ∙ (ap (orElse (lastAt p (suc k) comps)) (set-each-at (operands (nodeAt ns n)) k t v h) ∙ sym
+      (orElse-assoc (lastAt p (suc k) comps) (cond (p n) (suc k) 0) (getD t v 0)))
 
 -- ---- the ordinal after which a write comes is that of the last computation for which it waits
 
@@ -175,14 +177,16 @@ module _ (ns : List Node) (ss : List Origin) (len : length ss ≡ length ns) (co
   reads-last c i [] h = sym (last-false 0 comps)
   reads-last c i (a ∷ al) h =
       ap (λ (x : ℕ). max x (oldReads ss c i (lastReads ns 0 comps (replicate (length ns) 0)) al)) (one (isLoad c i (originAt ss a)))
-      ∙ (ap (max (lastAt (λ n. isLoad c i (originAt ss a) && member a (operands (nodeAt ns n))) 0 comps)) (reads-last c i al (λ b t. h b (or-second (eqb b a) (member b al) t)))
+      ∙ (ap (max (lastAt (λ n. isLoad c i (originAt ss a) && member a (operands (nodeAt ns n))) 0 comps))
+      (reads-last c i al (λ b t. h b (or-second (eqb b a) (member b al) t)))
       ∙ last-or (λ n. isLoad c i (originAt ss a) && member a (operands (nodeAt ns n))) (reader c i al) 0 comps)
     where
       one : (t : Bool) → cond t (getD (lastReads ns 0 comps (replicate (length ns) 0)) a 0) 0 ≡ lastAt (λ n. t && member a (operands (nodeAt ns n))) 0 comps
       one false = sym (last-false 0 comps)
       one true =
           read-is ns a 0 comps (replicate (length ns) 0) (rw (length-replicate {A = ℕ} (length ns) 0) (h a (or-first (eqb a a) (member a al) (eqb-refl a))))
-          ∙ (ap (orElse (lastAt (λ n. member a (operands (nodeAt ns n))) 0 comps)) (zeros-at (length ns) a) ∙ or-zero (lastAt (λ n. member a (operands (nodeAt ns n))) 0 comps))
+          ∙ (ap (orElse (lastAt (λ n. member a (operands (nodeAt ns n))) 0 comps)) (zeros-at (length ns) a) ∙ or-zero
+          (lastAt (λ n. member a (operands (nodeAt ns n))) 0 comps))
 
   -- a node that loads the memory is in the table
   reader-is : (c i n : ℕ) → reader c i (countUp 0 (length ns)) n ≡ anyOf (λ a. isLoad c i (originAt ss a)) (operands (nodeAt ns n))
@@ -190,12 +194,14 @@ module _ (ns : List Node) (ss : List Origin) (len : length ss ≡ length ns) (co
       same-test (reader c i (countUp 0 (length ns)) n) (anyOf (λ a. isLoad c i (originAt ss a)) (operands (nodeAt ns n)))
       (λ t.
       let r = any-is (λ a. isLoad c i (originAt ss a) && member a (operands (nodeAt ns n))) (countUp 0 (length ns)) t in
-      any-at (λ a. isLoad c i (originAt ss a)) (operands (nodeAt ns n)) (r .0) (and-second (isLoad c i (originAt ss (r .0))) (member (r .0) (operands (nodeAt ns n))) (r .2))
+      any-at (λ a. isLoad c i (originAt ss a)) (operands (nodeAt ns n)) (r .0)
+      (and-second (isLoad c i (originAt ss (r .0))) (member (r .0) (operands (nodeAt ns n))) (r .2))
       (and-first (isLoad c i (originAt ss (r .0))) (member (r .0) (operands (nodeAt ns n))) (r .2)))
       (λ t.
       let r = any-is (λ a. isLoad c i (originAt ss a)) (operands (nodeAt ns n)) t in
       let l : r .0 < length ss = origin-inside ss (r .0) (load-origin c i (originAt ss (r .0)) (r .2)) in
-      any-at (λ a. isLoad c i (originAt ss a) && member a (operands (nodeAt ns n))) (countUp 0 (length ns)) (r .0) (count-up-member 0 (length ns) (r .0) (omega arith) (omega (arith, l, len)))
+      any-at (λ a. isLoad c i (originAt ss a) && member a (operands (nodeAt ns n))) (countUp 0 (length ns)) (r .0)
+      (count-up-member 0 (length ns) (r .0) (omega arith) (omega (arith, l, len)))
       (and-both (isLoad c i (originAt ss (r .0))) (member (r .0) (operands (nodeAt ns n))) (r .2) (r .1)))
 
   after-is : (ws : List Write) (w : Write) → w .value < length ns → after ns ss ws comps w ≡ lastAt (waits ns ss w) 0 comps
@@ -252,12 +258,14 @@ module _ (ns : List Node) (ss : List Origin) (len : length ss ≡ length ns) (ws
   ops-same done [] = refl
   ops-same done (n ∷ rest) =
       let comps : List ℕ = done ++ (n ∷ rest) in
-      let f = filter-ext (λ w. w .value < length ns) (λ w. eqb (after ns ss ws comps w) (suc (length done))) (λ w. waits ns ss w n && not (anyOf (waits ns ss w) rest)) ws inside (λ w l.
+      let f = filter-ext (λ w. w .value < length ns) (λ w. eqb (after ns ss ws comps w) (suc (length done)))
+      (λ w. waits ns ss w n && not (anyOf (waits ns ss w) rest)) ws inside (λ w l.
       ap (λ (x : ℕ). eqb x (suc (length done))) (after-is ns ss len comps ws w l) ∙ comes-here (waits ns ss w) done n rest) in
       let e : length (done ++ (n ∷ [])) ≡ suc (length done) = length-append done (n ∷ []) ∙ omega arith in
       let ih : ordinalTasks ns ss ws comps (suc (length done)) rest ≡ scheduleFrom ns ss ws rest =
       subst (λ (k : ℕ). ordinalTasks ns ss ws comps k rest ≡ scheduleFrom ns ss ws rest) e
-      (subst (λ (l : List ℕ). ordinalTasks ns ss ws l (length (done ++ (n ∷ []))) rest ≡ scheduleFrom ns ss ws rest) (append-snoc done n rest) (ops-same (done ++ (n ∷ [])) rest)) in
+      (subst (λ (l : List ℕ). ordinalTasks ns ss ws l (length (done ++ (n ∷ []))) rest ≡ scheduleFrom ns ss ws rest) (append-snoc done n rest)
+      (ops-same (done ++ (n ∷ [])) rest)) in
       λ i. computeTask n ∷ (tasksOf (f i) ++ ih i)
 
   -- `sample_schedule` is the schedule

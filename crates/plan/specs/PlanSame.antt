@@ -77,7 +77,8 @@ module _ (g : Flow) (v : GoodFlow g) where
   all-inside : AllWrites (λ w. w .value < length (g .nodes)) (writes g)
   unfolding writes
   all-inside =
-      all-append g v (λ w. w .value < length (g .nodes)) (writesFrom 10 0 (g .states)) (writesFrom 11 0 (g .delays)) (values-in 10 0 (g .states) (v .ups)) (values-in 11 0 (g .delays) (v .dels))
+      all-append g v (λ w. w .value < length (g .nodes)) (writesFrom 10 0 (g .states)) (writesFrom 11 0 (g .delays)) (values-in 10 0 (g .states) (v .ups))
+      (values-in 11 0 (g .delays) (v .dels))
 
   -- `sample_schedule`
   pub sample-schedule : (planOf g) .sampleTasks ≡ ordinalSchedule (g .nodes) (ss g v) (writes g) (comps g v) (g .output)

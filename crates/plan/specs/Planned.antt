@@ -91,7 +91,8 @@ module _ (b : Flow) (v : GoodFlow b) where
   pub homes-at : (n : ℕ) → n < length ns → getD homes n false ≡ (getD need n false && hoistable ns inv n)
   unfolding homesOf
   homes-at n h =
-      let z : 0 + n ≡ n = omega arith in map-at (λ n. getD need n false && hoistable ns inv n) 0 (length ns) n false h ∙ ap (λ (k : ℕ). getD need k false && hoistable ns inv k) z
+      let z : 0 + n ≡ n = omega arith in map-at (λ n. getD need n false && hoistable ns inv n) 0 (length ns) n false h ∙ ap
+      (λ (k : ℕ). getD need k false && hoistable ns inv k) z
 
   -- a flag for each node
   pub homes-length : length homes ≡ length ns
@@ -108,14 +109,19 @@ module _ (b : Flow) (v : GoodFlow b) where
   pub comps-in : (n : ℕ) → T (member n comps) → (n < length ns) × T (getD need n false) × T (not (hasOrigin (originAt ss n)))
   unfolding sampleComputations
   comps-in n t =
-      let r = filter-member (λ n. getD need n false && not (hasOrigin (originAt ss n))) (countUp 0 (length ns)) n t in
-      (omega (arith, count-up-below 0 (length ns) n (r .0)), and-first (getD need n false) (not (hasOrigin (originAt ss n))) (r .1), and-second (getD need n false) (not (hasOrigin (originAt ss n))) (r .1))
+      let r = filter-member (λ n. getD need n false && not (hasOrigin (originAt ss n))) (countUp 0 (length ns)) n t in (
+        omega (arith, count-up-below 0 (length ns) n (r .0)),
+        and-first (getD need n false) (not (hasOrigin (originAt ss n))) (r .1),
+        and-second
+            (getD need n false) (not (hasOrigin (originAt ss n))) (r .1),
+      )
 
   -- .. and back
   pub in-comps : (n : ℕ) → n < length ns → T (getD need n false) → T (not (hasOrigin (originAt ss n))) → T (member n comps)
   unfolding sampleComputations
   in-comps n h t u =
-      member-filter (λ n. getD need n false && not (hasOrigin (originAt ss n))) (countUp 0 (length ns)) n (count-up-member 0 (length ns) n (omega arith) (omega arith)) (and-both (getD need n false) (not (hasOrigin (originAt ss n))) t u)
+      member-filter (λ n. getD need n false && not (hasOrigin (originAt ss n))) (countUp 0 (length ns)) n
+      (count-up-member 0 (length ns) n (omega arith) (omega arith)) (and-both (getD need n false) (not (hasOrigin (originAt ss n))) t u)
 
   -- a computation of the sample phase is not hoistable
   pub comp-plain : (n : ℕ) → T (member n comps) → T (not (hoistable ns inv n))
@@ -136,7 +142,8 @@ module _ (b : Flow) (v : GoodFlow b) where
 
   -- the new value of each write is an origin or computed
   pub write-values : (c k : ℕ) (us : List ℕ) → ((n : ℕ) → T (member n (updatesOf us)) → (n < length ns) × T (getD need n false))
-      → AllWrites (λ w. (w .value < length ss) × (T (hasOrigin (originAt ss (w .value))) ⊎ ((originAt ss (w .value) ≡ noOrigin) × T (member (w .value) comps)))) (writesFrom c k us)
+      → AllWrites (λ w. (w .value < length ss) × (T (hasOrigin (originAt ss (w .value))) ⊎ ((originAt ss (w .value) ≡ noOrigin) × T (member (w .value) comps))))
+      (writesFrom c k us)
   write-values c k [] h = tt
   write-values c k (zero ∷ us) h = write-values c (suc k) us h
   write-values c k (suc n ∷ us) h =
@@ -193,14 +200,19 @@ module _ (b : Flow) (v : GoodFlow b) where
   pub ccomps-in : (n : ℕ) → T (member n ccomps) → (n < length ns) × T (getD cneed n false) × T (isComputed (nodeAt ns n))
   unfolding controlComputations
   ccomps-in n t =
-      let r = filter-member (λ n. getD cneed n false && isComputed (nodeAt ns n)) (countUp 0 (length ns)) n t in
-      (omega (arith, count-up-below 0 (length ns) n (r .0)), and-first (getD cneed n false) (isComputed (nodeAt ns n)) (r .1), and-second (getD cneed n false) (isComputed (nodeAt ns n)) (r .1))
+      let r = filter-member (λ n. getD cneed n false && isComputed (nodeAt ns n)) (countUp 0 (length ns)) n t in (
+        omega (arith, count-up-below 0 (length ns) n (r .0)),
+        and-first (getD cneed n false) (isComputed (nodeAt ns n)) (r .1),
+        and-second (getD cneed n false)
+            (isComputed (nodeAt ns n)) (r .1),
+      )
 
   -- .. and back
   pub in-ccomps : (n : ℕ) → n < length ns → T (getD cneed n false) → T (isComputed (nodeAt ns n)) → T (member n ccomps)
   unfolding controlComputations
   in-ccomps n h t u =
-      member-filter (λ n. getD cneed n false && isComputed (nodeAt ns n)) (countUp 0 (length ns)) n (count-up-member 0 (length ns) n (omega arith) (omega arith)) (and-both (getD cneed n false) (isComputed (nodeAt ns n)) t u)
+      member-filter (λ n. getD cneed n false && isComputed (nodeAt ns n)) (countUp 0 (length ns)) n
+      (count-up-member 0 (length ns) n (omega arith) (omega arith)) (and-both (getD cneed n false) (isComputed (nodeAt ns n)) t u)
 
   -- they ascend
   pub control-ascending : Ascending 0 ccomps

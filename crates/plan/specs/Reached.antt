@@ -154,11 +154,13 @@ inv-old : (xs : List Node) (fl : List Bool) (j : ℕ) → j < length fl → getD
 unfolding invariants
 inv-old [] fl j h = refl
 inv-old (x ∷ xs) fl j h =
-    inv-old xs (fl ++ (invariantNode x fl ∷ [])) j (omega (arith, length-append fl (invariantNode x fl ∷ []))) ∙ List·getD-append fl (invariantNode x fl ∷ []) false j h
+    inv-old xs (fl ++ (invariantNode x fl ∷ [])) j (omega (arith, length-append fl (invariantNode x fl ∷ []))) ∙ List·getD-append fl (invariantNode x fl ∷ [])
+    false j h
 
 -- flag n of the whole is node n's, from the flags before it
 inv-at : (xs : List Node) (fl : List Bool) (j : ℕ) → j < length xs
-    → (gl : List Bool) × (getD (invariants xs fl) (length fl + j) false ≡ invariantNode (nodeAt xs j) gl) × (length gl ≡ length fl + j) × ((i : ℕ) → i < length gl → getD gl i false ≡ getD (invariants xs fl) i false)
+    → (gl : List Bool) × (getD (invariants xs fl) (length fl + j) false ≡ invariantNode (nodeAt xs j) gl) × (length gl ≡ length fl + j)
+    × ((i : ℕ) → i < length gl → getD gl i false ≡ getD (invariants xs fl) i false)
 unfolding invariants
 inv-at [] fl j h = absurd (omega arith)
 inv-at (x ∷ xs) fl zero h =
@@ -171,7 +173,8 @@ inv-at (x ∷ xs) fl zero h =
     )
 inv-at (x ∷ xs) fl (suc j) h =
     let fl′ : List Bool = fl ++ (invariantNode x fl ∷ []) in
-    let r : (gl : List Bool) × (getD (invariants xs fl′) (length fl′ + j) false ≡ invariantNode (nodeAt xs j) gl) × (length gl ≡ length fl′ + j) × ((i : ℕ) → i < length gl → getD gl i false ≡ getD (invariants xs fl′) i false)
+    let r : (gl : List Bool) × (getD (invariants xs fl′) (length fl′ + j) false ≡ invariantNode (nodeAt xs j) gl) × (length gl ≡ length fl′ + j)
+    × ((i : ℕ) → i < length gl → getD gl i false ≡ getD (invariants xs fl′) i false)
     = inv-at xs fl′ j (omega arith) in
     let e : length fl′ + j ≡ length fl + suc j = omega (arith, length-append fl (invariantNode x fl ∷ [])) in
     (r .0, rw e at (r .1), r .2 ∙ e, r .3)

@@ -86,7 +86,8 @@ module _ (ns : List Node) (down : ℕ → Bool) (ord : Ordered ns) where
   marks-only P cl (suc f) seen [] hs hp n t = hs n t
   marks-only P cl (suc f) seen (x ∷ pending) hs hp n t =
       go (getD seen x false) (λ u. marks-only P cl f seen pending hs pr n u)
-      (λ u. marks-only P cl f (set seen x true) (backwards (next x) ++ pending) (λ m w. seen′ m (ℕ-discrete m x) w) (λ m w. pend m (member-append (backwards (next x)) pending m w)) n u) t
+      (λ u. marks-only P cl f (set seen x true) (backwards (next x) ++ pending) (λ m w. seen′ m (ℕ-discrete m x) w)
+      (λ m w. pend m (member-append (backwards (next x)) pending m w)) n u) t
     where
       px : P x
       px = hp x (or-first (eqb x x) (member x pending) (eqb-refl x))
@@ -197,7 +198,8 @@ module _ (ns : List Node) (down : ℕ → Bool) (ord : Ordered ns) where
           ins a (inr u) = r .inside a (or-second (eqb a x) (member a pending) u)
 
       go : (b : Bool) → getD seen x false ≡ b → (Ready seen pending → Left seen pending (turns ns down f seen pending))
-          → (2 * unseen (set seen x true) + length (backwards (next x) ++ pending) ≤ f → Left (set seen x true) (backwards (next x) ++ pending) (turns ns down f (set seen x true) (backwards (next x) ++ pending)))
+          → (2 * unseen (set seen x true) + length (backwards (next x) ++ pending) ≤ f → Left (set seen x true) (backwards (next x) ++ pending)
+          (turns ns down f (set seen x true) (backwards (next x) ++ pending)))
           → Left seen (x ∷ pending) (cond b (turns ns down f seen pending) (turns ns down f (set seen x true) (backwards (next x) ++ pending)))
       go true q ih jh =
           let t : T (getD seen x false) = rw q tt in
@@ -245,8 +247,11 @@ module _ (ns : List Node) (down : ℕ → Bool) (ord : Ordered ns) where
   reachable-same rs inside =
       same-list R S (loops .len ∙ sym (length-sweep ns down (length ns) m₀ ∙ len₀))
       (λ n t. marks-only (λ n. T (getD S n false)) closed (2 * length ns + length rs) (replicate (length ns) false) (backwards rs)
-      (λ n u. absurd (rw (none-seen (length ns) n) at u)) (λ n u. sweep-mono ns down (length ns) m₀ n (mark-in rs (replicate (length ns) false) n (back-out rs n u) (rw (length-replicate (length ns) false) (inside n (back-out rs n u))))) n t)
-      (λ n t. sweep-all ns down (λ n. T (getD R n false)) (λ n a d u p. loops .closed n a p d u) (length ns) m₀ (λ n u. from n (mark-inv rs (replicate (length ns) false) n u)) n t)
+      (λ n u. absurd (rw (none-seen (length ns) n) at u))
+      (λ n u. sweep-mono ns down (length ns) m₀ n
+      (mark-in rs (replicate (length ns) false) n (back-out rs n u) (rw (length-replicate (length ns) false) (inside n (back-out rs n u))))) n t)
+      (λ n t. sweep-all ns down (λ n. T (getD R n false)) (λ n a d u p. loops .closed n a p d u) (length ns) m₀
+      (λ n u. from n (mark-inv rs (replicate (length ns) false) n u)) n t)
     where
       m₀ : List Bool
       m₀ = markAll rs (replicate (length ns) false)
