@@ -16,9 +16,9 @@ pub mod RunLaws
 pub mod Begin
 -- the plan gives the allocator what it asks for
 pub mod Scheduled
--- how many steps, slots and registers
+-- how many steps and slots; that no more registers are held than usable is in the invariant
 pub mod Costs
-pub mod Bounds
+pub mod SlotLaws
 -- the Rust's own forms: definitions, and that they give the same: `reads` and `next`, the pairs of `max_by_key`, loops over every node
 pub mod RustAllocator
 pub mod RustReads

@@ -12,7 +12,7 @@ use Rattle.plan.specs.Hoist.{hoistable, controlComputations}
 use Rattle.plan.specs.Origins.{hasOrigin, originAt}
 use Rattle.plan.specs.Schedule.{writesFrom, schedule, controlTasks, sampleComputations, writes, planOf}
 use Rattle.plan.specs.TestLaws.{and-first, and-second, and-both}
-use Rattle.plan.specs.ListLaws.{filter-length, filter-member, count-up-below, count-up-length, passing-apart, passing-le}
+use Rattle.plan.specs.ListLaws.{count-le, filter-length, filter-member, count-up-below, count-up-length, passing-apart, passing-le}
 use Rattle.plan.specs.OriginLaws.{number-length}
 use Rattle.plan.specs.Planned.{GoodFlow, in-comps, comp-plain, cneed-inv, inv, need, homes, slots, ss, cneed, cs, comps, ccomps, homes-length}
 use Rattle.allocate.specs.State.{Setting, State, begin}
@@ -23,7 +23,7 @@ use Rattle.allocate.specs.RunLaws.{costs, Ran, run-ran}
 use Rattle.allocate.specs.Begin.{begin-inv}
 use Rattle.allocate.specs.Costs.{costs-schedule, costs-control, writes-count}
 use Rattle.allocate.specs.Scheduled.{settingOf, number-ok, sample-tasks-ok, control-tasks-ok}
-use Rattle.allocate.specs.Bounds.{count-le, run-bounds}
+use Rattle.allocate.specs.SlotLaws.{run-slots}
 use Rattle.compile.specs.Draft.{usable, usableBit, controlSetting, sampleSetting, draftOf, compilePlan, compileFlow, Draft}
 use Rattle.compile.specs.Gives.{usable-ascending}
 
@@ -51,7 +51,7 @@ pub record DraftFits (f : Flow) (mask : ℕ) (d : Draft) : Type 0 where
   pub most : d .most ≤ length (usable mask)
 
 abbrev Both : Setting → List ℕ → ℕ → State → Type 0
-Both e home cost s = Ran e home cost (begin e) s × ((s .slots ≤ e .fixed + length (s .steps)) × (s .most ≤ 16))
+Both e home cost s = Ran e home cost (begin e) s × (s .slots ≤ e .fixed + length (s .steps))
 
 module _ (b : Flow) (v : GoodFlow b) where
   -- no node is computed in both phases
@@ -130,10 +130,10 @@ module _ (b : Flow) (v : GoodFlow b) where
   control-fits mask =
       let e : Setting = controlSetting b (planOf b) mask in
       post-map (Both e (slots b v) (costs ((planOf b) .controlTasks))) _ (allocate e ((planOf b) .controlTasks) (begin e))
-      (post-and _ _ (allocate e ((planOf b) .controlTasks) (begin e)) (control-ran mask) (run-bounds e ((planOf b) .controlTasks)))
+      (post-and _ _ (allocate e ((planOf b) .controlTasks) (begin e)) (control-ran mask) (run-slots e ((planOf b) .controlTasks)))
       (λ s h. record {
         steps = omega (arith, h .0 .grow, none-yet e, control-cost);
-        slots = omega (arith, h .1 .0, slots-numbered);
+        slots = omega (arith, h .1, slots-numbered);
         most = h .0 .good .held;
       })
 
@@ -144,10 +144,10 @@ module _ (b : Flow) (v : GoodFlow b) where
   sample-fits mask =
       let e : Setting = sampleSetting b (planOf b) mask in
       post-map (Both e [] (costs ((planOf b) .sampleTasks))) _ (allocate e ((planOf b) .sampleTasks) (begin e))
-      (post-and _ _ (allocate e ((planOf b) .sampleTasks) (begin e)) (sample-ran mask) (run-bounds e ((planOf b) .sampleTasks)))
+      (post-and _ _ (allocate e ((planOf b) .sampleTasks) (begin e)) (sample-ran mask) (run-slots e ((planOf b) .sampleTasks)))
       (λ s h. record {
         steps = omega (arith, h .0 .grow, none-yet e, sample-cost);
-        slots = omega (arith, h .1 .0);
+        slots = omega (arith, h .1);
         most = h .0 .good .held;
       })
 

@@ -11,7 +11,7 @@ use lib.ListN.{getD, length, replicate}
 use lib.Dec.{T, eqb, eqb-refl, eqb→eq, leb}
 use borrow.Author.Tests.{ne-eqb}
 use Rattle.tables.specs.Tests.{or-pass}
-use Rattle.plan.specs.Lists.{member, filter, anyOf, countUp, firstOf, better, best}
+use Rattle.plan.specs.Lists.{count, member, filter, anyOf, countUp, firstOf, better, best}
 use Rattle.plan.specs.TestLaws.{or-first, or-second}
 
 -- ---- members
@@ -193,7 +193,7 @@ pub count-up-length : (k n : ℕ) → length (countUp k n) ≡ n
 count-up-length k zero = refl
 count-up-length k (suc n) = ap suc (count-up-length (suc k) n)
 
--- ---- flags
+-- ---- flags and options
 
 -- a flag that is set lies in the table
 pub flag-inside : (l : List Bool) (n : ℕ) → T (getD l n false) → n < length l
@@ -218,6 +218,12 @@ pub none-seen : (n i : ℕ) → getD (replicate n false) i false ≡ false
 none-seen zero i = refl
 none-seen (suc n) zero = refl
 none-seen (suc n) (suc i) = none-seen n i
+
+-- no more are some than there are
+pub count-le : (xs : List ℕ) → count xs ≤ length xs
+count-le [] = omega arith
+count-le (zero ∷ xs) = omega (arith, count-le xs)
+count-le (suc x ∷ xs) = omega (arith, count-le xs)
 
 -- ---- ascending lists
 

@@ -1,42 +1,32 @@
--- How many slots, registers and instructions a phase has. Assumes nothing.
-use mathlib.Core.Path.{_∙_, _≡_, refl}
+-- Each slot of a phase is fixed or came with a step: `run-slots`. Assumes nothing.
 use mathlib.Core.Bool.{Bool, _&&_, false, not, true}
 use mathlib.Core.List.{List, [], _++_, _∷_}
-use Prim.Native.Nat.{_+_, _≤_, max, pred, suc, zero, ℕ}
+use Prim.Native.Nat.{_+_, _≤_, pred, suc, zero, ℕ}
 use native.Mathlib.Omega.{arith}
-use lib.ListN.{getD, length, length-append, length-replicate, length-set, set}
+use lib.ListN.{getD, length, length-append}
 use Rattle.plan.specs.Nodes.{nodeAt}
 use Rattle.plan.specs.Origins.{Origin, noOrigin, immediate, loaded, originAt, homeOf}
 use Rattle.plan.specs.Schedule.{Task, computeTask, keepTask, storeTask, taskReads}
-use Rattle.plan.specs.Lists.{firstOf, count}
+use Rattle.plan.specs.Lists.{firstOf}
 use Rattle.allocate.specs.Actions.{Action, compute, storeControl, loadAction, storeAction, Operation, loadImmediate}
-use Rattle.allocate.specs.State.{Allocated, allocated, allLocked, Setting, State, Taken, TakenAll, registerOf, slotOf, isFresh, reloadable, emit, emitOperation, toSlot, fromSlot, spillIn, spillOut, place, vacate, disown, release, begin, lend, setSlot, stale}
+use Rattle.allocate.specs.State.{Allocated, allocated, allLocked, Setting, State, Taken, TakenAll, registerOf, slotOf, isFresh, reloadable, emit, emitOperation, toSlot, fromSlot, spillIn, spillOut, place, vacate, release, begin, lend, setSlot, stale}
 use Rattle.allocate.specs.Allocator.{spillIf, evict, takeRegister, bringFrom, bringIf, bring, fetchHeld, fetch, fetchAll, releaseIf, releaseAll, readLater, resultRegister, lower, runCompute, runKeep, homeCode, preserveIf, preserve, runStore, runTask, allocateTask, readsOf, allocate}
-use Rattle.allocate.specs.Outcomes.{Post, post-bind}
+use Rattle.allocate.specs.Outcomes.{post-map, Post, post-bind}
 use Rattle.allocate.specs.StateLaws.{TakeView, was-free, evicted, none, take-view}
 
--- no more are some than there are
-pub count-le : (xs : List ℕ) → count xs ≤ length xs
-count-le [] = omega arith
-count-le (zero ∷ xs) = omega (arith, count-le xs)
-count-le (suc x ∷ xs) = omega (arith, count-le xs)
-
--- each new slot comes with a step, and no more than sixteen registers are held
+-- each new slot comes with a step
 pub record Grew (s s′ : State) : Type 0 where
   pub slots : s′ .slots + length (s .steps) ≤ s .slots + length (s′ .steps)
-  pub owners : length (s′ .owner) ≡ length (s .owner)
-  pub most : (n : ℕ) → length (s .owner) ≤ n → s .most ≤ n → s′ .most ≤ n
 
 grew-refl : (s : State) → Grew s s
-grew-refl s = record { slots = omega arith; owners = refl; most = λ n l h. h }
+grew-refl s = record { slots = omega arith }
 
 grew-trans : (a c d : State) → Grew a c → Grew c d → Grew a d
-grew-trans a c d x y =
-    record { slots = omega (arith, x .slots, y .slots); owners = y .owners ∙ x .owners; most = λ n l h. y .most n (omega (arith, x .owners)) (x .most n l h) }
+grew-trans a c d x y = record { slots = omega (arith, x .slots, y .slots) }
 
 emit-grew : (x : Action) (s : State) → Grew s (emit x s)
 unfolding emit
-emit-grew x s = record { slots = omega (arith, length-append (s .steps) (x ∷ [])); owners = refl; most = λ n l h. h }
+emit-grew x s = record { slots = omega (arith, length-append (s .steps) (x ∷ [])) }
 
 operation-grew : (x : Operation) (s : State) → Grew s (emitOperation x s)
 operation-grew x s = emit-grew (compute x) s
@@ -46,12 +36,12 @@ unfolding spillOut
 spill-grew e v r s = go (s .free)
   where
     go : (f : List ℕ) → Grew s (spillIn e v r f s)
-    go [] = record { slots = omega (arith, length-append (s .steps) (toSlot e (s .slots) r ∷ [])); owners = refl; most = λ n l h. h }
-    go (k ∷ ks) = record { slots = omega (arith, length-append (s .steps) (toSlot e k r ∷ [])); owners = refl; most = λ n l h. h }
+    go [] = record { slots = omega (arith, length-append (s .steps) (toSlot e (s .slots) r ∷ [])) }
+    go (k ∷ ks) = record { slots = omega (arith, length-append (s .steps) (toSlot e k r ∷ [])) }
 
 vacate-grew : (v r : ℕ) (s : State) → Grew s (vacate v r s)
 unfolding vacate
-vacate-grew v r s = record { slots = omega arith; owners = length-set (s .owner) r 0; most = λ n l h. h }
+vacate-grew v r s = record { slots = omega arith }
 
 evict-grew : (e : Setting) (v r : ℕ) (s : State) → Grew s (evict e v r s)
 unfolding evict
@@ -61,19 +51,9 @@ evict-grew e v r s = go (reloadable s v)
     go true = vacate-grew v r s
     go false = grew-trans s (spillOut e v r s) (vacate v r (spillOut e v r s)) (spill-grew e v r s) (vacate-grew v r (spillOut e v r s))
 
-max-le : (a c n : ℕ) → a ≤ n → c ≤ n → max a c ≤ n
-max-le a c n h k = omega arith
-
 place-grew : (v r : ℕ) (s : State) → Grew s (place v r s)
 unfolding place
-place-grew v r s =
-    let own : List ℕ = set (s .owner) r (suc v) in
-    record {
-      slots = omega arith;
-      owners = length-set (s .owner) r (suc v);
-      most = λ n l h. max-le (s .most) (count own) n h
-          (omega (arith, count-le own, length-set (s .owner) r (suc v)));
-    }
+place-grew v r s = record { slots = omega arith }
 
 abbrev GrewTaken : State → Taken → Type 0
 GrewTaken s g = Grew s (g .state)
@@ -123,11 +103,7 @@ fetchAll-grew e rest (n ∷ ns) locked s =
 
 release-grew : (e : Setting) (n : ℕ) (s : State) → Grew s (release e n s)
 unfolding release
-release-grew e n s = record { slots = omega arith; owners = go (registerOf s n); most = λ n l h. h }
-  where
-    go : (h : ℕ) → length (disown h (s .owner)) ≡ length (s .owner)
-    go zero = refl
-    go (suc r) = length-set (s .owner) r 0
+release-grew e n s = record { slots = omega arith }
 
 releaseAll-grew : (e : Setting) (rest : List (List ℕ)) (ns : List ℕ) (s : State) → Grew s (releaseAll e rest ns s)
 unfolding releaseAll
@@ -141,7 +117,7 @@ releaseAll-grew e rest (n ∷ ns) s = go (readLater rest n) (λ s′. releaseAll
 result-grew : (e : Setting) (rest : List (List ℕ)) (n : ℕ) (locked : List ℕ) (s : State) (f : ℕ) → Post (Unit {0}) (GrewTaken s) (resultRegister e rest n locked s f)
 unfolding lend
 result-grew e rest n locked s zero = take-grew e rest n locked s
-result-grew e rest n locked s (suc d) = record { slots = omega arith; owners = length-set (s .owner) (pred (registerOf s d)) (suc n); most = λ n l h. h }
+result-grew e rest n locked s (suc d) = record { slots = omega arith }
 
 preserve-grew : (e : Setting) (rest : List (List ℕ)) (locked : List ℕ) (s : State) (h : ℕ) → Post (Unit {0}) (λ s′. Grew s s′) (preserve e rest locked s h)
 preserve-grew e rest locked s zero = grew-refl s
@@ -154,11 +130,11 @@ preserve-grew e rest locked s (suc n) = go (isFresh s n && readLater rest n)
 stale-grew : (h : ℕ) (s : State) → Grew s (stale h s)
 unfolding stale
 stale-grew zero s = grew-refl s
-stale-grew (suc n) s = record { slots = omega arith; owners = refl; most = λ n l h. h }
+stale-grew (suc n) s = record { slots = omega arith }
 
 setSlot-grew : (v k : ℕ) (s : State) → Grew s (setSlot v k s)
 unfolding setSlot
-setSlot-grew v k s = record { slots = omega arith; owners = refl; most = λ n l h. h }
+setSlot-grew v k s = record { slots = omega arith }
 
 task-grew : (e : Setting) (rest : List (List ℕ)) (reads : List ℕ) (o : Task) (g : TakenAll) → Post (Unit {0}) (λ s′. Grew (g .state) s′) (runTask e rest reads o g)
 unfolding runTask runCompute runKeep runStore
@@ -194,11 +170,7 @@ run-grew e (o ∷ os) s =
     join a h (allocated s′) k = grew-trans s a s′ h k
     join a h allLocked k = tt
 
--- from the start: slots are the fixed ones and at most one for each step; at most sixteen registers are held
-pub run-bounds : (e : Setting) (os : List Task) → Post (Unit {0}) (λ s. (s .slots ≤ e .fixed + length (s .steps)) × (s .most ≤ 16)) (allocate e os (begin e))
+-- from the start: the fixed slots, and at most one for each step
+pub run-slots : (e : Setting) (os : List Task) → Post (Unit {0}) (λ s. s .slots ≤ e .fixed + length (s .steps)) (allocate e os (begin e))
 unfolding begin
-run-bounds e os = go (allocate e os (begin e)) (run-grew e os (begin e))
-  where
-    go : (x : Allocated State) → Post (Unit {0}) (λ s. Grew (begin e) s) x → Post (Unit {0}) (λ s. (s .slots ≤ e .fixed + length (s .steps)) × (s .most ≤ 16)) x
-    go (allocated s) k = (omega (arith, k .slots), k .most 16 (omega (arith, length-replicate {A = ℕ} 16 0)) (omega arith))
-    go allLocked k = tt
+run-slots e os = post-map (Grew (begin e)) (λ s. s .slots ≤ e .fixed + length (s .steps)) (allocate e os (begin e)) (run-grew e os (begin e)) (λ s h. omega (arith, h .slots))
