@@ -19,6 +19,8 @@ pub mod Scheduled
 -- how many steps and slots; that no more registers are held than usable is in the invariant
 pub mod Costs
 pub mod SlotLaws
+-- which indices and immediates
+pub mod WordLaws
 -- the Rust's own forms: definitions, and that they give the same: `reads` and `next`, the pairs of `max_by_key`, loops over every node
 pub mod RustAllocator
 pub mod RustReads
