@@ -173,4 +173,5 @@ run-grew e (o ∷ os) s =
 -- from the start: the fixed slots, and at most one for each step
 pub run-slots : (e : Setting) (os : List Task) → Post (Unit {0}) (λ s. s .slots ≤ e .fixed + length (s .steps)) (allocate e os (begin e))
 unfolding begin
-run-slots e os = post-map (Grew (begin e)) (λ s. s .slots ≤ e .fixed + length (s .steps)) (allocate e os (begin e)) (run-grew e os (begin e)) (λ s h. omega (arith, h .slots))
+run-slots e os =
+    post-map (Grew (begin e)) (λ s. s .slots ≤ e .fixed + length (s .steps)) (allocate e os (begin e)) (run-grew e os (begin e)) (λ s h. omega (arith, h .slots))

@@ -1,11 +1,11 @@
 -- Every index that a phase emits is a slot's or one that the plan names, and every immediate a constant's: `run-fine`. Assumes nothing.
-use mathlib.Core.Path.{_≡_, refl, sym, ap, _∙_}
+use mathlib.Core.Path.{_≡_, refl}
 use mathlib.Core.Logic.{_⊎_, inl, inr}
-use mathlib.Core.Bool.{Bool, true, false, not, cond, _&&_, _||_}
+use mathlib.Core.Bool.{Bool, true, false, not, cond, _&&_}
 use mathlib.Core.List.{List, [], _∷_, _++_}
 use Prim.Native.Nat.{ℕ, zero, suc, pred, _+_, _≤_, _<_}
 use native.Mathlib.Omega.{arith}
-use lib.ListN.{length, getD, set}
+use lib.ListN.{length, getD}
 use lib.Dec.{T, eqb, eqb→eq, eqb-refl, leb}
 use Rattle.tables.specs.Tests.{or-pass}
 use Rattle.tables.specs.Stores.{set-says}
@@ -18,7 +18,7 @@ use Rattle.plan.specs.Origins.{Origin, noOrigin, immediate, loaded, originAt, h
 use Rattle.plan.specs.Schedule.{Task, computeTask, keepTask, storeTask, taskReads}
 use Rattle.plan.specs.TestLaws.{or-first, or-second}
 use Rattle.allocate.specs.Actions.{Operation, loadImmediate, binary, unary, Action, load, compute, spill, reload, storeState, storeDelay, storeOutput, storeControl, sourceOf, loadAction, storeAction}
-use Rattle.allocate.specs.State.{Allocated, allocated, allLocked, Setting, State, Taken, TakenAll, registerOf, slotOf, isFresh, reloadable, emit, emitOperation, toSlot, fromSlot, spillTo, spillIn, spillOut, giveBack, place, vacate, release, begin, lend, setSlot, stale}
+use Rattle.allocate.specs.State.{Allocated, Setting, State, Taken, TakenAll, registerOf, slotOf, isFresh, reloadable, emit, emitOperation, toSlot, fromSlot, spillTo, spillIn, spillOut, giveBack, place, vacate, release, begin, lend, setSlot, stale}
 use Rattle.allocate.specs.Allocator.{spillIf, evict, takeRegister, bringFrom, bringIf, bring, fetchHeld, fetch, fetchAll, releaseIf, releaseAll, readLater, resultRegister, lower, runCompute, runKeep, homeCode, preserveIf, preserve, runStore, runTask, allocateTask, readsOf, allocate}
 use Rattle.allocate.specs.Outcomes.{Post, post-bind}
 use Rattle.allocate.specs.StateLaws.{TakeView, was-free, evicted, none, take-view, unset}
@@ -69,7 +69,9 @@ source-index : (c i k : ℕ) → 0 < k → i < k → sourceIndex (sourceOf c i) 
 unfolding sourceOf
 source-index c i k z h = one (eqb c 1) (eqb c 2) (eqb c 3) (eqb c 4) (eqb c 5)
   where
-    one : (a b c d e : Bool) → sourceIndex (cond a Source.Audio (cond b Source.Network (cond c (Source.Parameter i) (cond d (Source.State i) (cond e (Source.Delay i) (Source.Control i)))))) < k
+    one : (a b c d e : Bool)
+        → sourceIndex (cond a Source.Audio (cond b Source.Network
+        (cond c (Source.Parameter i) (cond d (Source.State i) (cond e (Source.Delay i) (Source.Control i)))))) < k
     one true b c d e = z
     one false true c d e = z
     one false false true d e = h
@@ -130,7 +132,9 @@ module _ (margin limit : ℕ) (some : 0 < margin) (any : 0 < limit) where
       record {
         used = λ m j q. was m j (set-says (s .spilled) n (suc k) m j q);
         freed = fr;
-        steps = all-append (Fine slots) (s .steps) (toSlot e k r ∷ []) (all-map (Fine (s .slots)) (Fine slots) (λ x f. (omega (arith, f .0), f .1)) (s .steps) (h .steps)) (to-slot e k r slots lt, tt);
+        steps =
+            all-append (Fine slots) (s .steps) (toSlot e k r ∷ [])
+            (all-map (Fine (s .slots)) (Fine slots) (λ x f. (omega (arith, f .0), f .1)) (s .steps) (h .steps)) (to-slot e k r slots lt, tt);
       }
     where
       was : (m j : ℕ) → ((m ≡ n) × (suc k ≡ suc j)) ⊎ ((m ≡ n → ⊥) × (slotOf s m ≡ suc j)) → j < slots + margin
@@ -159,7 +163,8 @@ module _ (margin limit : ℕ) (some : 0 < margin) (any : 0 < limit) where
   unfolding place
   place-fine n r s h = record { used = h .used; freed = h .freed; steps = h .steps }
 
-  take-fine : (e : Setting) (rest : List (List ℕ)) (n : ℕ) (locked : List ℕ) (s : State) → FineState s → Post (Unit {0}) (λ t. FineState (t .state)) (takeRegister e rest n locked s)
+  take-fine : (e : Setting) (rest : List (List ℕ)) (n : ℕ) (locked : List ℕ) (s : State) → FineState s
+      → Post (Unit {0}) (λ t. FineState (t .state)) (takeRegister e rest n locked s)
   take-fine e rest n locked s h = go (takeRegister e rest n locked s) (take-view e rest n locked s)
     where
       go : (x : Allocated Taken) → TakeView e n locked s x → Post (Unit {0}) (λ t. FineState (t .state)) x
@@ -238,7 +243,8 @@ module _ (margin limit : ℕ) (some : 0 < margin) (any : 0 < limit) where
     lower-fine (binaryNode k a b) d rs = any
     lower-fine (unaryNode k a) d rs = any
 
-    result-fine : (rest : List (List ℕ)) (n : ℕ) (locked : List ℕ) (s : State) (d : ℕ) → FineState s → Post (Unit {0}) (λ t. FineState (t .state)) (resultRegister e rest n locked s d)
+    result-fine : (rest : List (List ℕ)) (n : ℕ) (locked : List ℕ) (s : State) (d : ℕ) → FineState s
+        → Post (Unit {0}) (λ t. FineState (t .state)) (resultRegister e rest n locked s d)
     unfolding lend
     result-fine rest n locked s zero h = take-fine e rest n locked s h
     result-fine rest n locked s (suc d) h = record { used = h .used; freed = h .freed; steps = h .steps }
@@ -273,10 +279,12 @@ module _ (margin limit : ℕ) (some : 0 < margin) (any : 0 < limit) where
         go false true = (omega arith, any)
         go false false = (omega arith, any)
 
-    task-fine : (rest : List (List ℕ)) (reads : List ℕ) (task : Task) (f : TakenAll) → FineTask task → FineState (f .state) → Post (Unit {0}) FineState (runTask e rest reads task f)
+    task-fine : (rest : List (List ℕ)) (reads : List ℕ) (task : Task) (f : TakenAll) → FineTask task → FineState (f .state)
+        → Post (Unit {0}) FineState (runTask e rest reads task f)
     unfolding runTask runCompute runKeep runStore
     task-fine rest reads (computeTask n) f z h =
-        post-bind (Unit {0}) (λ t. FineState (t .state)) FineState (resultRegister e rest n (f .registers) (f .state) (firstOf (λ d. not (readLater rest d)) reads)) _
+        post-bind (Unit {0}) (λ t. FineState (t .state)) FineState
+        (resultRegister e rest n (f .registers) (f .state) (firstOf (λ d. not (readLater rest d)) reads)) _
         (result-fine rest n (f .registers) (f .state) (firstOf (λ d. not (readLater rest d)) reads) h)
         (λ t q.
         let x : Operation = lower (nodeAt (e .nodes) n) (t .register) (f .registers) in

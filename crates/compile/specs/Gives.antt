@@ -1,9 +1,15 @@
--- With three usable registers or more there is a kernel: `compile-gives`. Assumes nothing.
-use mathlib.Core.Path.{_≡_, refl}
+-- With three usable registers or more there is a kernel: `compile-gives`, `call-accepts`. Assumes nothing.
+use mathlib.Core.Path.{_≡_, refl, ap, _∙_}
+use mathlib.Core.Bool.{false}
 use Prim.Native.Nat.{_≤_, ℕ}
 use native.Mathlib.Omega.{arith}
 use lib.ListN.{length}
-use Rattle.expand.specs.Graph.{Graph}
+use Rattle.answers.specs.Numbers.{accepted}
+use Rattle.answers.specs.Order.{_⨾_, refuse}
+use Rattle.answers.specs.OrderLaws.{then-pass, refuse-off}
+use Rattle.block.specs.Block.{Block}
+use Rattle.block.specs.Validation.{validation}
+use Rattle.expand.specs.Graph.{Graph, graphOf}
 use Rattle.plan.specs.ListLaws.{Ascending, ascending-filter}
 use Rattle.plan.specs.Nodes.{Flow}
 use Rattle.plan.specs.Schedule.{planOf, Plan}
@@ -15,6 +21,7 @@ use Rattle.allocate.specs.Pressure.{run-sure}
 use Rattle.compile.specs.Draft.{usable, usableBit, compileFlow, compilePlan, controlSetting, sampleSetting, Draft}
 use Rattle.compile.specs.Words.{Compiled, compiledOf}
 use Rattle.compile.specs.Compile.{compile}
+use Rattle.compile.specs.Call.{Tables, tooShort, Done, compiledAnswer, compileJudged, compileAnswer, compileCall}
 
 -- the usable registers ascend
 pub usable-ascending : (mask : ℕ) → Ascending 0 (usable mask)
@@ -38,3 +45,12 @@ compile-gives graph mask h = go (compileFlow (flowOf graph) mask) (flow-sure (fl
     go : (x : Allocated Draft) → Sure x → (c : Compiled) × (andThen x (λ draft. allocated (compiledOf draft)) ≡ allocated c)
     go (allocated draft) s = (compiledOf draft, refl)
     go allLocked s = absurd s
+
+-- so a call accepts every valid block, for such a mask, in tables that are long enough
+pub call-accepts : (b : Block) (mask : ℕ) (t : Tables) → validation b ≡ accepted tt → tooShort b t ≡ false → 3 ≤ length (usable mask)
+    → (done : Done) × (compileCall b mask t .answer ≡ accepted done)
+unfolding compileCall compileAnswer compileJudged
+call-accepts b mask t v room h =
+    let (c, e) = compile-gives (graphOf b) mask h in
+    let judged : (validation b ⨾ refuse 13 (tooShort b t)) ≡ accepted tt = then-pass (refuse 13 (tooShort b t)) v ∙ refuse-off 13 room in
+    (record { kernel = c .kernel; registers = c .registers }, then-pass (compiledAnswer (compile (graphOf b) mask)) judged ∙ ap compiledAnswer e)

@@ -4,11 +4,12 @@ pub mod Draft
 pub mod Words
 pub mod Compile
 pub mod Call
--- with three usable registers there is a kernel: `compile-gives`
+-- with three usable registers there is a kernel: `compile-gives`, `call-accepts`
 pub mod Gives
--- document 01's bounds: `compile-bounds`, `counts-fit`, `call-lengths`
+-- document 01's bounds: `compile-bounds`, `counts-fit`, `call-lengths`; every word is below 2^32: `compile-words`
 pub mod PhasesFit
 pub mod Bounds
+pub mod SmallWords
 -- the Rust's own forms give the same kernel: `compile-rust`, `block-rust`
 pub mod RustCompile
 -- document 01's small kernels: `starred-kernels`

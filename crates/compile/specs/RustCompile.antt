@@ -1,5 +1,5 @@
 -- codegen.rs: `compile_with` in its own forms is compile. Assumes nothing.
-use mathlib.Core.Path.{_∙_, _≡_, ap, refl}
+use mathlib.Core.Path.{_≡_, refl, sym, ap, _∙_}
 use mathlib.Core.Bool.{Bool}
 use mathlib.Core.List.{List, []}
 use Prim.Native.Nat.{ℕ, _+_, _*_, _≤_}
@@ -28,6 +28,8 @@ use Rattle.allocate.specs.RustSame.{allocate-rust}
 use Rattle.allocate.specs.Costs.{tasks-le}
 use Rattle.allocate.specs.RunLaws.{TasksOk}
 use Rattle.compile.specs.Draft.{Draft, usable, controlSetting, sampleSetting, draftOf, compilePlan, compileFlow}
+use Rattle.compile.specs.Words.{compiledOf}
+use Rattle.compile.specs.Compile.{compile}
 use Rattle.compile.specs.PhasesFit.{phases, control-cost, sample-cost}
 
 -- codegen.rs: `compile_with`
@@ -90,9 +92,9 @@ module _ (g : Flow) (v : GoodFlow g) (few : 7 * length (g .nodes) + 5 * (length 
       (control-alike mask) (sample-alike mask))
 
 -- of a valid block
-pub block-rust : (b : Block) → Valid b → (mask : ℕ) → compileRust (flowOf (graphOf b)) mask ≡ compileFlow (flowOf (graphOf b)) mask
+flow-rust : (b : Block) → Valid b → (mask : ℕ) → compileRust (flowOf (graphOf b)) mask ≡ compileFlow (flowOf (graphOf b)) mask
 unfolding graphOf flowOf
-block-rust b valid mask =
+flow-rust b valid mask =
     compile-rust (flowOf (graphOf b)) (good-flow (countsOf b) (graphOf b) (good-graph b valid))
     (omega (
       arith,
@@ -104,3 +106,9 @@ block-rust b valid mask =
       valid .delayLimit,
     ))
     mask
+
+-- .. and so its words
+pub block-rust : (b : Block) → Valid b → (mask : ℕ)
+    → compile (graphOf b) mask ≡ andThen (compileRust (flowOf (graphOf b)) mask) (λ draft. allocated (compiledOf draft))
+unfolding compile
+block-rust b valid mask = ap (λ (x : Allocated Draft). andThen x (λ draft. allocated (compiledOf draft))) (sym (flow-rust b valid mask))
