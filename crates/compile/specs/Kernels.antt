@@ -79,7 +79,7 @@ instructionTable [] = []
 instructionTable (i ∷ is) = instructionWord i ∷ instructionImmediate i ∷ instructionTable is
 
 -- control steps, sample steps and instructions; control slots, spill slots, most registers held
-unfoldable kernel : List Step → List Step → List Instruction → ℕ → ℕ → ℕ → Compiled
+unfoldable pub kernel : List Step → List Step → List Instruction → ℕ → ℕ → ℕ → Compiled
 kernel control sample instructions slots spills registers =
     record {
       steps = stepTable (control ++ sample);
@@ -143,7 +143,7 @@ unfoldable writing : ℕ
 unfolding compile compileFlow compilePlan controlSetting sampleSetting draftOf usable compiledOf stepWord kernel
 writing = 0
 
-unfoldable compiling : ℕ
+unfoldable pub compiling : ℕ
 unfolding expanding planning scheduling changing allocating writing
 compiling = 0
 

@@ -12,5 +12,6 @@ pub mod Bounds
 pub mod SmallWords
 -- the Rust's own forms give the same kernel: `compile-rust`, `block-rust`
 pub mod RustCompile
--- document 01's small kernels: `starred-kernels`
+-- document 01's small kernels: `starred-kernels`; further kernels as the Rust gives them
 pub mod Kernels
+pub mod Examples
