@@ -53,6 +53,7 @@ advance position (n ∷ reads) table indices =
 
 -- ---- `take`
 
+-- `usize::MAX`
 abbrev pub usizeMax : ℕ
 usizeMax = 18446744073709551615
 
@@ -80,27 +81,32 @@ abbrev pub betterBy : (ℕ → ℕ → Bool) → ℕ → ℕ → ℕ
 betterBy le x zero = suc x
 betterBy le x (suc y) = cond (le x y) (suc y) (suc x)
 
+-- .. of a list
 abbrev pub bestBy : (ℕ → ℕ → Bool) → List ℕ → ℕ
 bestBy le [] = 0
 bestBy le (x ∷ xs) = betterBy le x (bestBy le xs)
 
+-- the free register, or the best of the unlocked ones
 abbrev pub takeFreeRust : Setting → (ℕ → ℕ) → ℕ → List ℕ → State → ℕ → Allocated Taken
 takeFreeRust setting next n locked s zero =
     takeBest setting n s (bestBy (keyLe next s) (filter (λ register. not (member register locked)) (setting .registers)))
 takeFreeRust setting next n locked s (suc register) = allocated (record { register = register; state = place n register s })
 
+-- `take`
 unfoldable pub takeRust : Setting → (ℕ → ℕ) → ℕ → List ℕ → State → Allocated Taken
 takeRust setting next n locked s =
     takeFreeRust setting next n locked s (firstOf (λ register. isNone (ownerOf s register)) (setting .registers))
 
 -- ---- `fetch`
 
+-- it is held, or a register is taken and filled
 abbrev pub fetchHeldRust : Setting → (ℕ → ℕ) → ℕ → List ℕ → State → ℕ → Allocated Taken
 fetchHeldRust setting next n locked s (suc register) = allocated (record { register = register; state = s })
 fetchHeldRust setting next n locked s zero =
     andThen (takeRust setting next n locked s)
     (λ t. allocated (record { register = t .register; state = bring setting n (t .register) (t .state) }))
 
+-- `fetch`
 unfoldable pub fetchRust : Setting → (ℕ → ℕ) → ℕ → List ℕ → State → Allocated Taken
 fetchRust setting next n locked s = fetchHeldRust setting next n locked s (registerOf s n)
 
@@ -117,12 +123,14 @@ releaseAllRust setting next (n ∷ reads) s = releaseAllRust setting next reads 
 
 -- ---- `Op::Compute`: `dying` is the first operand whose `next_read` is none
 
+-- `dst`: the dying operand's register, or a new one
 abbrev pub resultRust : Setting → (ℕ → ℕ) → ℕ → List ℕ → State → ℕ → Allocated Taken
 resultRust setting next n locked s zero = takeRust setting next n locked s
 resultRust setting next n locked s (suc dying) =
     let register : ℕ = pred (registerOf s dying) in
     allocated (record { register = register; state = lend register dying n s })
 
+-- the arm
 abbrev pub computeRust : Setting → (ℕ → ℕ) → List ℕ → ℕ → TakenAll → Allocated State
 computeRust setting next reads n fetched =
     andThen (resultRust setting next n (fetched .registers) (fetched .state) (firstOf (λ d. isNone (next d)) reads))
@@ -132,6 +140,7 @@ computeRust setting next reads n fetched =
 
 -- ---- `Op::StoreControl`
 
+-- the arm
 abbrev pub keepRust : Setting → (ℕ → ℕ) → List ℕ → ℕ → ℕ → TakenAll → Allocated State
 keepRust setting next reads slot n fetched =
     allocated
@@ -158,6 +167,7 @@ hideLoads code index origins [] = []
 hideLoads code index [] (flag ∷ flags) = flag ∷ flags
 hideLoads code index (x ∷ origins) (flag ∷ flags) = cond (isLoad code index x) false flag ∷ hideLoads code index origins flags
 
+-- .. of a state
 abbrev pub hideAll : Setting → ℕ → ℕ → State → State
 hideAll setting code index s =
     record {
@@ -171,6 +181,7 @@ hideAll setting code index s =
       most = s .most;
     }
 
+-- the arm of all other ops
 abbrev pub storeRust : Setting → (ℕ → ℕ) → List ℕ → ℕ → ℕ → TakenAll → Allocated State
 storeRust setting next reads code index fetched =
     andThen (preserveRust setting next (homeCode code) index (fetched .registers) (fetched .state) (countUp 0 (length (setting .origins))))

@@ -40,6 +40,7 @@ push-at k (x ∷ xs) table n h = push-at k xs (push k x table) n (rw length-set 
         rw (s, eq-eqb n x e) (append-assoc (getD table n []) (k ∷ []) (here k xs n))
     go (no e) = rw (getD-set-other table x n (getD table x [] ++ (k ∷ [])) [] e, ne-eqb n x e)
 
+-- a list for each node
 pub table-length : (k : ℕ) (rest table : List (List ℕ)) → length (readTable k rest table) ≡ length table
 table-length k [] table = refl
 table-length k (r ∷ rest) table = table-length (suc k) rest (pushAll k r table) ∙ push-length k r table
@@ -89,6 +90,7 @@ advance-at k (x ∷ xs) table next n h = advance-at k xs table after n (rw lengt
         let s : getD after n 0 ≡ getD next n 0 = getD-set-other next x n (getD next x 0 + passed k (drop (getD next x 0) (getD table x []))) 0 e in
         rw (s, ne-eqb n x e)
 
+-- an index for each node
 pub advance-length : (k : ℕ) (reads : List ℕ) (table : List (List ℕ)) (next : List ℕ) → length (advance k reads table next) ≡ length next
 advance-length k [] table next = refl
 advance-length k (x ∷ xs) table next =
@@ -169,6 +171,7 @@ first-position k (r ∷ rest) n = go r (first-position (suc k) rest n)
 
 -- ---- THE INVARIANT: at position k, what is left of each node's positions are those of the ops to come
 
+-- what is left of a node's list are its positions from k on
 abbrev pub Left : ℕ → List (List ℕ) → List (List ℕ) → List ℕ → Type 0
 Left k rest table indices = (n : ℕ) → drop (getD indices n 0) (getD table n []) ≡ positions k rest n
 
@@ -213,6 +216,7 @@ left-next k reads rest table indices same left n = go (decLt n (length indices))
 abbrev pub Agrees : (ℕ → ℕ) → ℕ → List (List ℕ) → Type 0
 Agrees next k rest = (n : ℕ) → next n ≡ cond (readLater rest n) (suc (k + distance rest n)) 0
 
+-- the first of them is it
 pub left-agrees : (k : ℕ) (rest table : List (List ℕ)) (indices : List ℕ) → Left k rest table indices → Agrees (nextReadIn table indices) k rest
 left-agrees k rest table indices left n =
     element-drop (getD table n []) (getD indices n 0) ∙ (ap (λ (l : List ℕ). elementAt l 0) (left n) ∙ first-position k rest n)

@@ -222,25 +222,25 @@ module _ (b : Flow) (v : GoodFlow b) where
       → TasksOk (settingOf (b .nodes) (ss b v) registers [] false 0) [] [] 0 (schedule (b .nodes) (ss b v) (writes b) (comps b v) (b .output))
   unfolding writes
   sample-tasks-ok registers =
-      schedule-ok (b .nodes) (ss b v) registers [] false 0 (comps b v) (v .ord)
+      schedule-ok (b .nodes) (ss b v) registers [] false 0 (comps b v) (v .ordered)
       (λ n t. let c = comps-in b v n t in (
         rw (sample-length (slots b v) (b .nodes)) (c .0),
         no-origin (originAt (ss b v) n)
             (un-not (hasOrigin (originAt (ss b v) n)) (c .2)),
       ))
-      (λ n a t u. let c = comps-in b v n t in value b v a (omega (arith, v .ord n a u, c .0)) (need-closed b v n a (c .0) (c .1) (comp-plain b v n t) u))
+      (λ n a t u. let c = comps-in b v n t in value b v a (omega (arith, v .ordered n a u, c .0)) (need-closed b v n a (c .0) (c .1) (comp-plain b v n t) u))
       (writes b) (b .output)
       (all-append b v _ (writesFrom 10 0 (b .states)) (writesFrom 11 0 (b .delays))
-      (write-values b v 10 0 (b .states) (λ n t. (v .ups n t, need-root b v n (root-state b v n t) (v .ups n t))))
-      (write-values b v 11 0 (b .delays) (λ n t. (v .dels n t, need-root b v n (root-delay b v n t) (v .dels n t)))))
-      (value b v (b .output) (v .out) (need-root b v (b .output) (root-output b v) (v .out)))
+      (write-values b v 10 0 (b .states) (λ n t. (v .stateUpdates n t, need-root b v n (root-state b v n t) (v .stateUpdates n t))))
+      (write-values b v 11 0 (b .delays) (λ n t. (v .delayUpdates n t, need-root b v n (root-delay b v n t) (v .delayUpdates n t)))))
+      (value b v (b .output) (v .output) (need-root b v (b .output) (root-output b v) (v .output)))
       (sample-ascending b v)
 
   -- the control phase
   pub control-tasks-ok : (registers : List ℕ) (fixed : ℕ)
       → TasksOk (settingOf (b .nodes) (cs b v) registers (slots b v) true fixed) (slots b v) [] 0 (controlTasks (slots b v) (ccomps b v))
   control-tasks-ok registers fixed =
-      control-all-ok (b .nodes) (cs b v) registers (slots b v) true fixed (ccomps b v) (v .ord)
+      control-all-ok (b .nodes) (cs b v) registers (slots b v) true fixed (ccomps b v) (v .ordered)
       (λ n t. let c = ccomps-in b v n t in (
         rw (length-map (b .nodes) controlOrigin) (c .0),
         control-at (b .nodes) n (c .0) ∙ control-computed
@@ -248,6 +248,6 @@ module _ (b : Flow) (v : GoodFlow b) where
       ))
       (λ n a t u.
       let c = ccomps-in b v n t in
-      let l : a < length (b .nodes) = omega (arith, v .ord n a u, c .0) in
-      cvalue b v a l (sweep-closed (b .nodes) (λ n. true) (v .ord) (length (b .nodes)) (homes b v) (rw (homes-length b v) (omega arith)) n a (c .0) (c .1) tt u))
+      let l : a < length (b .nodes) = omega (arith, v .ordered n a u, c .0) in
+      cvalue b v a l (sweep-closed (b .nodes) (λ n. true) (v .ordered) (length (b .nodes)) (homes b v) (rw (homes-length b v) (omega arith)) n a (c .0) (c .1) tt u))
       (control-ascending b v)

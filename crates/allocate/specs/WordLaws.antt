@@ -56,10 +56,12 @@ abbrev pub AllActions : (Action → Type 0) → List Action → Type 0
 AllActions P [] = Unit {0}
 AllActions P (x ∷ xs) = P x × AllActions P xs
 
+-- what P implies holds too
 pub all-map : (P Q : Action → Type 0) → ((x : Action) → P x → Q x) → (xs : List Action) → AllActions P xs → AllActions Q xs
 all-map P Q f [] a = tt
 all-map P Q f (x ∷ xs) a = (f x (a .0), all-map P Q f xs (a .1))
 
+-- of two lists, one behind the other
 pub all-append : (P : Action → Type 0) (xs ys : List Action) → AllActions P xs → AllActions P ys → AllActions P (xs ++ ys)
 all-append P [] ys a c = c
 all-append P (x ∷ xs) ys a c = (a .0, all-append P xs ys (a .1) c)
@@ -91,11 +93,13 @@ module _ (margin limit : ℕ) (some : 0 < margin) (any : 0 < limit) where
   FineOrigin (immediate bits) = bits < limit
   FineOrigin (loaded code index) = index < margin
 
+  -- a task
   abbrev pub FineTask : Task → Type 0
   FineTask (computeTask n) = Unit {0}
   FineTask (keepTask slot n) = slot < margin
   FineTask (storeTask code index n) = index < margin
 
+  -- all tasks
   abbrev pub FineTasks : List Task → Type 0
   FineTasks [] = Unit {0}
   FineTasks (task ∷ tasks) = FineTask task × FineTasks tasks

@@ -173,6 +173,7 @@ module _ (margin limit : ℕ) (some : 0 < margin) (any : 0 < limit) where
         run-fine margin limit some any (sampleSetting g (planOf g) mask) sample-origins ((planOf g) .sampleTasks)
         (schedule-tasks (g .nodes) (ss g v) (writes g) (comps g v) (g .output) all-within)
 
+    -- such a flow's draft
     pub draft-fine : (mask : ℕ) → Post (Unit {0}) FineDraft (compileFlow g mask)
     unfolding compileFlow compilePlan draftOf
     draft-fine mask =

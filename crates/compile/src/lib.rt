@@ -1,1 +1,1 @@
-// Compile: both phases, the kernel as words.
+// Compile: from a block to a kernel's words (document 01, modules 3 and 4). Definitions and theorems are in specs/.

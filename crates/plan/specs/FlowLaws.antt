@@ -90,8 +90,8 @@ update-at (suc m ∷ us) n t = go (or-pass (eqb n m) (member n (updatesOf us)) t
     go (inr u) ih = let r = ih u in (suc (r .0), r .1)
 
 module _ (n : Counts) (g : Graph) (good : GoodGraph n g) where
-  ordered : Ordered (flowOf g .nodes)
-  ordered k a t = go (decLt k (g .count))
+  in-order : Ordered (flowOf g .nodes)
+  in-order k a t = go (decLt k (g .count))
     where
       go : Dec (k < g .count) → a < k
       go (yes h) = below n k (code (g .nodes) k) (first (g .nodes) k) (second (g .nodes) k) a (good .nodes k h) (rw (flow-at g k h) at t)
@@ -102,10 +102,10 @@ module _ (n : Counts) (g : Graph) (good : GoodGraph n g) where
   unfolding flowOf
   good-flow =
       record {
-        ord = ordered;
-        out = rw (flow-length g) (good .output);
-        ups = λ m t. let r = update-at (g .stateUpdates) m t in rw (flow-length g) (omega (arith, good .stateUpdates (r .0), r .1));
-        dels = λ m t. let r = update-at (g .delayUpdates) m t in rw (flow-length g) (omega (arith, good .delayUpdates (r .0), r .1));
+        ordered = in-order;
+        output = rw (flow-length g) (good .output);
+        stateUpdates = λ m t. let r = update-at (g .stateUpdates) m t in rw (flow-length g) (omega (arith, good .stateUpdates (r .0), r .1));
+        delayUpdates = λ m t. let r = update-at (g .delayUpdates) m t in rw (flow-length g) (omega (arith, good .delayUpdates (r .0), r .1));
       }
 
 -- ---- what a node says of its words

@@ -28,17 +28,17 @@ module _ (g : Flow) (v : GoodFlow g) where
   root-in n t = go (or-pass (eqb n (g .output)) (member n (updatesOf (g .states) ++ updatesOf (g .delays))) t)
     where
       up : T (member n (updatesOf (g .states))) ⊎ T (member n (updatesOf (g .delays))) → n < length (g .nodes)
-      up (inl u) = v .ups n u
-      up (inr u) = v .dels n u
+      up (inl u) = v .stateUpdates n u
+      up (inr u) = v .delayUpdates n u
 
       go : T (eqb n (g .output)) ⊎ T (member n (updatesOf (g .states) ++ updatesOf (g .delays))) → n < length (g .nodes)
-      go (inl u) = let z : n ≡ g .output = eqb→eq n (g .output) u in omega (arith, v .out)
+      go (inl u) = let z : n ≡ g .output = eqb→eq n (g .output) u in omega (arith, v .output)
       go (inr u) = up (member-append (updatesOf (g .states)) (updatesOf (g .delays)) n u)
 
   -- `sample_needed`
   pub sample-needed : neededBy g (inv g v) ≡ reachable (g .nodes) (roots g) (λ n. not (hoistable (g .nodes) (inv g v) n))
   unfolding neededBy
-  sample-needed = sym (reachable-same (g .nodes) (λ n. not (hoistable (g .nodes) (inv g v) n)) (v .ord) (roots g) root-in)
+  sample-needed = sym (reachable-same (g .nodes) (λ n. not (hoistable (g .nodes) (inv g v) n)) (v .ordered) (roots g) root-in)
 
   -- `control_roots`: the nodes that get a control slot, in order
   abbrev pub controlRoots : List ℕ
@@ -50,7 +50,7 @@ module _ (g : Flow) (v : GoodFlow g) where
   -- marking them gives their flags
   marked : markAll controlRoots (replicate (length (g .nodes)) false) ≡ homes g v
   marked =
-      same-list (g .nodes) (λ n. true) (v .ord) (markAll controlRoots (replicate (length (g .nodes)) false)) (homes g v)
+      same-list (g .nodes) (λ n. true) (v .ordered) (markAll controlRoots (replicate (length (g .nodes)) false)) (homes g v)
       (length-markAll controlRoots (replicate (length (g .nodes)) false) ∙ (length-replicate (length (g .nodes)) false ∙ sym (homes-length g v)))
       (λ n t. from n (mark-inv controlRoots (replicate (length (g .nodes)) false) n t))
       (λ n t.
@@ -65,7 +65,7 @@ module _ (g : Flow) (v : GoodFlow g) where
 
   -- `control_needed`
   pub control-needed : cneed g v ≡ reachable (g .nodes) controlRoots (λ n. true)
-  control-needed = sym (reachable-same (g .nodes) (λ n. true) (v .ord) controlRoots roots-in ∙ ap (sweep (g .nodes) (λ n. true) (length (g .nodes))) marked)
+  control-needed = sym (reachable-same (g .nodes) (λ n. true) (v .ordered) controlRoots roots-in ∙ ap (sweep (g .nodes) (λ n. true) (length (g .nodes))) marked)
 
   values-in : (c k : ℕ) (us : List ℕ) → ((n : ℕ) → T (member n (updatesOf us)) → n < length (g .nodes))
       → AllWrites (λ w. w .value < length (g .nodes)) (writesFrom c k us)
@@ -77,8 +77,8 @@ module _ (g : Flow) (v : GoodFlow g) where
   all-inside : AllWrites (λ w. w .value < length (g .nodes)) (writes g)
   unfolding writes
   all-inside =
-      all-append g v (λ w. w .value < length (g .nodes)) (writesFrom 10 0 (g .states)) (writesFrom 11 0 (g .delays)) (values-in 10 0 (g .states) (v .ups))
-      (values-in 11 0 (g .delays) (v .dels))
+      all-append g v (λ w. w .value < length (g .nodes)) (writesFrom 10 0 (g .states)) (writesFrom 11 0 (g .delays)) (values-in 10 0 (g .states) (v .stateUpdates))
+      (values-in 11 0 (g .delays) (v .delayUpdates))
 
   -- `sample_schedule`
   pub sample-schedule : (planOf g) .sampleTasks ≡ ordinalSchedule (g .nodes) (ss g v) (writes g) (comps g v) (g .output)

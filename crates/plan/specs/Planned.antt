@@ -19,10 +19,10 @@ use Rattle.plan.specs.OriginLaws.{number-some, sample-at, sample-length,
 
 -- what the plan asks of a flow: operands stand before their node; the output and every update are nodes
 pub record GoodFlow (b : Flow) : Type 0 where
-  pub ord : Ordered (b .nodes)
-  pub out : b .output < length (b .nodes)
-  pub ups : (n : ℕ) → T (member n (updatesOf (b .states))) → n < length (b .nodes)
-  pub dels : (n : ℕ) → T (member n (updatesOf (b .delays))) → n < length (b .nodes)
+  pub ordered : Ordered (b .nodes)
+  pub output : b .output < length (b .nodes)
+  pub stateUpdates : (n : ℕ) → T (member n (updatesOf (b .states))) → n < length (b .nodes)
+  pub delayUpdates : (n : ℕ) → T (member n (updatesOf (b .delays))) → n < length (b .nodes)
 
 -- P holds of every write
 abbrev pub AllWrites : (Write → Type 0) → List Write → Type 0
@@ -39,20 +39,23 @@ all-filter P Q p (w ∷ ws) a f = go (p w) refl (all-filter P Q p ws (a .1) f)
     go false q ih = ih
 
 module _ (b : Flow) (v : GoodFlow b) where
-  -- the steps of `planOf`, by name: nodes, what is invariant, what the sample phase needs
+  -- the nodes
   abbrev pub ns : List Node
   ns = b .nodes
 
+  -- which are invariant
   abbrev pub inv : List Bool
   inv = invariants ns []
 
+  -- which the sample phase needs
   abbrev pub need : List Bool
   need = neededBy b inv
 
-  -- the nodes that get a control slot, and the slots
+  -- which get a control slot
   abbrev pub homes : List Bool
   homes = homesOf ns inv need
 
+  -- the slots
   abbrev pub slots : List ℕ
   slots = number 0 homes
 
@@ -60,10 +63,11 @@ module _ (b : Flow) (v : GoodFlow b) where
   abbrev pub ss : List Origin
   ss = sampleOrigins slots ns
 
-  -- what the control phase needs, and its origins
+  -- which the control phase needs
   abbrev pub cneed : List Bool
   cneed = sweep ns (λ n. true) (length ns) homes
 
+  -- the origins of the control phase
   abbrev pub cs : List Origin
   cs = map controlOrigin ns
 
@@ -84,7 +88,7 @@ module _ (b : Flow) (v : GoodFlow b) where
   pub need-closed : (n a : ℕ) → n < length ns → T (getD need n false) → T (not (hoistable ns inv n)) → T (member a (operands (nodeAt ns n))) → T (getD need a false)
   unfolding neededBy
   need-closed n a h t d u =
-      sweep-closed ns (λ n. not (hoistable ns inv n)) (v .ord) (length ns) (markAll (roots b) (replicate (length ns) false))
+      sweep-closed ns (λ n. not (hoistable ns inv n)) (v .ordered) (length ns) (markAll (roots b) (replicate (length ns) false))
       (rw (length-markAll, length-replicate) (omega arith)) n a h t d u
 
   -- what gets a control slot is needed and hoistable
@@ -155,16 +159,18 @@ module _ (b : Flow) (v : GoodFlow b) where
   all-append P [] ys a c = c
   all-append P (x ∷ xs) ys a c = (a .0, all-append P xs ys (a .1) c)
 
-  -- the output is a root, and so is every update
+  -- the output is a root
   pub root-output : T (member (b .output) (roots b))
   unfolding roots
   root-output = or-first (eqb (b .output) (b .output)) (member (b .output) (updatesOf (b .states) ++ updatesOf (b .delays))) (eqb-refl (b .output))
 
+  -- so is a state's update
   pub root-state : (n : ℕ) → T (member n (updatesOf (b .states))) → T (member n (roots b))
   unfolding roots
   root-state n t =
       or-second (eqb n (b .output)) (member n (updatesOf (b .states) ++ updatesOf (b .delays))) (member-left (updatesOf (b .states)) (updatesOf (b .delays)) n t)
 
+  -- so is a delay's
   pub root-delay : (n : ℕ) → T (member n (updatesOf (b .delays))) → T (member n (roots b))
   unfolding roots
   root-delay n t =
@@ -193,7 +199,7 @@ module _ (b : Flow) (v : GoodFlow b) where
   pub cneed-inv : (n : ℕ) → T (getD cneed n false) → (n < length ns) × T (getD inv n false)
   cneed-inv n t =
       sweep-all ns (λ n. true) (λ n. (n < length ns) × T (getD inv n false))
-      (λ n a d u p. (omega (arith, v .ord n a u, p .0), inv-closed ns (v .ord) n a (p .0) (p .1) u))
+      (λ n a d u p. (omega (arith, v .ordered n a u, p .0), inv-closed ns (v .ordered) n a (p .0) (p .1) u))
       (length ns) homes homes-inv n t
 
   -- a computation of the control phase is a node that it needs and that is computed

@@ -91,6 +91,7 @@ planFrom flow needed =
       sampleTasks = ordinalSchedule nodes origins (writes flow) (sampleComputations nodes needed origins) (flow .output);
     }
 
+-- all of it
 unfoldable pub planRust : Flow → Plan
 planRust flow =
     let nodes : List Node = flow .nodes in
