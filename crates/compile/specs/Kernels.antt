@@ -49,23 +49,23 @@ abbrev parameter : List ℕ
 parameter = 0 ∷ 0x3f800000 ∷ 0 ∷ []
 
 -- "A* nodes: input; output 0"
-pub blockA : Block
+unfoldable pub blockA : Block
 blockA = block (header 0) [] [] [] (0 ∷ 0 ∷ 0 ∷ [])
 
 -- "C* input, state 0, state 1; state 0 takes node 2, state 1 node 1; output 0"
-pub blockC : Block
+unfoldable pub blockC : Block
 blockC = block (header 0) [] (0 ∷ 3 ∷ 0 ∷ 2 ∷ []) [] (0 ∷ 0 ∷ 0 ∷ 3 ∷ 0 ∷ 0 ∷ 3 ∷ 1 ∷ 0 ∷ [])
 
 -- "D* input, parameter 0, add 0 1, mul 0 1, mul 2 3, output 4"
-pub blockD : Block
+unfoldable pub blockD : Block
 blockD = block (header 4) parameter [] [] (0 ∷ 0 ∷ 0 ∷ 2 ∷ 0 ∷ 0 ∷ 5 ∷ 0 ∷ 1 ∷ 7 ∷ 0 ∷ 1 ∷ 7 ∷ 2 ∷ 3 ∷ [])
 
 -- "E*": "parameter 0, neg 0, input, mul 2 1, output 3"
-pub blockE : Block
+unfoldable pub blockE : Block
 blockE = block (header 3) parameter [] [] (2 ∷ 0 ∷ 0 ∷ 12 ∷ 0 ∷ 0 ∷ 0 ∷ 0 ∷ 0 ∷ 7 ∷ 2 ∷ 1 ∷ [])
 
 -- "I* no nodes"
-pub blockI : Block
+unfoldable pub blockI : Block
 blockI = block (header 0) [] [] [] []
 
 -- ---- the kernels
@@ -89,18 +89,18 @@ kernel control sample instructions slots spills registers =
     }
 
 -- "Load audio r0, store output r0."
-pub kernelA : Compiled
+unfoldable pub kernelA : Compiled
 kernelA = kernel [] (Load Source.Audio 0 ∷ StoreOutput 0 ∷ []) [] 0 0 1
 
 -- "load state 1 r0, state 0 r1; store state 0 r0, state 1 r1; load audio r0; store output r0"
-pub kernelC : Compiled
+unfoldable pub kernelC : Compiled
 kernelC =
     kernel []
     (Load (Source.State 1) 0 ∷ Load (Source.State 0) 1 ∷ StoreState 0 0 ∷ StoreState 1 1 ∷ Load Source.Audio 0 ∷ StoreOutput 0 ∷ [])
     [] 0 0 2
 
 -- "mask 7 six steps"
-pub kernelD : Compiled
+unfoldable pub kernelD : Compiled
 kernelD =
     kernel []
     (Load Source.Audio 0 ∷ Load (Source.Parameter 0) 1 ∷ Compute 0 ∷ Compute 1 ∷ Compute 2 ∷ StoreOutput 2 ∷ [])
@@ -108,7 +108,7 @@ kernelD =
     0 0 3
 
 -- the listing: "control 3 .. sample 4 .. slots 1 0, registers 2, instructions 2"
-pub kernelE : Compiled
+unfoldable pub kernelE : Compiled
 kernelE =
     kernel
     (Load (Source.Parameter 0) 0 ∷ Compute 0 ∷ StoreControl 0 0 ∷ [])
