@@ -68,6 +68,11 @@ instructionFrom code dst lhs rhs immediate =
 unfoldable pub instructionOf : ℕ → ℕ → InstructionWords
 instructionOf word immediate = instructionFrom (word / 4096) (word / 256 % 16) (word / 16 % 16) (word % 16) immediate
 
+-- the instruction that words are, or another if they are none
+abbrev pub instructionOr : Instruction → InstructionWords → Instruction
+instructionOr other (Formed instruction) = instruction
+instructionOr other Malformed = other
+
 -- instruction i of a table
 abbrev pub instructionAt : List ℕ → ℕ → InstructionWords
 instructionAt instructions i = instructionOf (getD instructions (2 * i) 0) (getD instructions (2 * i + 1) 0)

@@ -4,3 +4,4 @@ pub mod Instructions
 pub mod Lists
 pub mod RoundTrips
 pub mod ListLaws
+pub mod Named

@@ -91,6 +91,11 @@ stepFrom code register index =
 unfoldable pub stepOf : ℕ → ℕ → StepWords
 stepOf word index = stepFrom (word / 16) (word % 16) index
 
+-- the step that words are, or another if they are none
+abbrev pub stepOr : Step → StepWords → Step
+stepOr other (Formed step) = step
+stepOr other Malformed = other
+
 -- step i of a table
 abbrev pub stepAt : List ℕ → ℕ → StepWords
 stepAt steps i = stepOf (getD steps (2 * i) 0) (getD steps (2 * i + 1) 0)

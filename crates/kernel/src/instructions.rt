@@ -5,7 +5,7 @@ ghost use mathlib.Core.Path.{_≡_};
 ghost use mathlib.Core.Bool.{_&&_};
 ghost use Prim.Native.Nat.{_≤_};
 ghost use lib.Dec.{eqb};
-ghost use Rattle.kernel.specs.Instructions.{packed, instructionWord, instructionImmediate, formedIf, instructionFrom, instructionOf};
+ghost use Rattle.kernel.specs.Instructions.{packed, instructionWord, instructionImmediate, formedIf, instructionFrom, instructionOf, instructionOr};
 
 fn packed(code: u32, dst: u32, lhs: u32, rhs: u32) -> u32
     requires { ⌜ code ≤ 9 ⌝ }
@@ -123,6 +123,39 @@ pub fn instruction_from_words(word: u32, immediate: u32) -> InstructionWords
     ensures { λ r. ⌜ r ≡ instructionOf word immediate ⌝ }
 {
     instruction_from(
+        word / 4096,
+        word / 256 % 16,
+        word / 16 % 16,
+        word % 16,
+        immediate,
+    )
+}
+
+// The instruction that a code, three registers and an immediate are if they are one. Nothing else is asked of them.
+fn instruction_named(code: u32, dst: u32, lhs: u32, rhs: u32, immediate: u32) -> Instruction
+    ensures { λ r. ⌜ r ≡ instructionOr r (instructionFrom code dst lhs rhs immediate) ⌝ }
+{
+    match code {
+        1 => Instruction::Immediate {
+            dst,
+            value: immediate,
+        },
+        2 => Instruction::Add { dst, lhs, rhs },
+        3 => Instruction::Sub { dst, lhs, rhs },
+        4 => Instruction::Mul { dst, lhs, rhs },
+        5 => Instruction::Min { dst, lhs, rhs },
+        6 => Instruction::Max { dst, lhs, rhs },
+        7 => Instruction::Neg { dst, src: lhs },
+        8 => Instruction::Abs { dst, src: lhs },
+        _ => Instruction::IntegerSub { dst, lhs, rhs },
+    }
+}
+
+// For words that are an instruction, as `steps::step_of_words`.
+pub fn instruction_of_words(word: u32, immediate: u32) -> Instruction
+    ensures { λ r. ⌜ r ≡ instructionOr r (instructionOf word immediate) ⌝ }
+{
+    instruction_named(
         word / 4096,
         word / 256 % 16,
         word / 16 % 16,

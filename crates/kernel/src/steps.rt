@@ -3,7 +3,7 @@ use crate::Source;
 use crate::Step;
 use crate::StepWords;
 ghost use mathlib.Core.Path.{_≡_};
-ghost use Rattle.kernel.specs.Steps.{sourceCode, stepCode, stepRegister, sourceIndex, stepIndex, stepWord, unusedZero, stepFrom, stepOf};
+ghost use Rattle.kernel.specs.Steps.{sourceCode, stepCode, stepRegister, sourceIndex, stepIndex, stepWord, unusedZero, stepFrom, stepOf, stepOr};
 
 fn source_code(source: Source) -> u32
     ensures { λ r. ⌜ r ≡ sourceCode source ⌝ }
@@ -167,4 +167,47 @@ pub fn step_from_words(word: u32, index: u32) -> StepWords
     ensures { λ r. ⌜ r ≡ stepOf word index ⌝ }
 {
     step_from(word / 16, word % 16, index)
+}
+
+// The step that a code, a register and an index are if they are one. Nothing else is asked of them.
+fn step_named(code: u32, register: u32, index: u32) -> Step
+    ensures { λ r. ⌜ r ≡ stepOr r (stepFrom code register index) ⌝ }
+{
+    match code {
+        1 => load(Source::Audio, register),
+        2 => load(Source::Network, register),
+        3 => load(Source::Parameter { index }, register),
+        4 => load(Source::State { index }, register),
+        5 => load(Source::Delay { index }, register),
+        6 => load(Source::Control { slot: index }, register),
+        7 => Step::Compute { instruction: index },
+        8 => Step::Spill {
+            slot: index,
+            register,
+        },
+        9 => Step::Reload {
+            slot: index,
+            register,
+        },
+        10 => Step::StoreState {
+            state: index,
+            register,
+        },
+        11 => Step::StoreDelay {
+            delay: index,
+            register,
+        },
+        12 => Step::StoreOutput { register },
+        _ => Step::StoreControl {
+            slot: index,
+            register,
+        },
+    }
+}
+
+// For words that may run and so are a step: with no test between the code and its case a compiler jumps once for both.
+pub fn step_of_words(word: u32, index: u32) -> Step
+    ensures { λ r. ⌜ r ≡ stepOr r (stepOf word index) ⌝ }
+{
+    step_named(word / 16, word % 16, index)
 }

@@ -21,13 +21,14 @@ use Rattle.kernel.specs.declared.StepWords.the-variants as StepWords
 use Rattle.kernel.specs.declared.Phase.{Phase}
 use Rattle.kernel.specs.declared.Phase.the-variants.{Control, Sample}
 use Rattle.kernel.specs.declared.Kernel.{Kernel}
-use Rattle.kernel.specs.Steps.{allowedIn}
-use Rattle.kernel.specs.Instructions.{instructionAt}
-use Rattle.kernel.specs.Lists.{Sizes, sizes, sourceInside, indexInside, stepMayRun}
+use Rattle.kernel.specs.Steps.{allowedIn, stepOr}
+use Rattle.kernel.specs.Instructions.{instructionAt, instructionOr}
+use Rattle.kernel.specs.Lists.{Sizes, sizes, sourceInside, indexInside, isFormed, stepMayRun}
+use Rattle.kernel.specs.Named.{step-formed, instruction-formed}
 use Rattle.memory.specs.Lines.{Memories, memories, storeDelay, storeState}
 use Rattle.memory.specs.Signals.{Given}
 use Rattle.machine.specs.Machine.{machine, Program, register, execute, executeWords, loaded, actWords}
-use Rattle.machine.specs.StepLaws.{may-allowed, may-inside}
+use Rattle.machine.specs.StepLaws.{may-allowed, may-inside, may-computes}
 use Rattle.machine.specs.Ready.{Slotted, MayRun, slotTable, slotCount, Slots, slots, slotStored}
 
 -- ---- the slots of the phase that a step is allowed in
@@ -49,6 +50,9 @@ module _ {p s d : ℕ} {k : Kernel} {instructions : List ℕ} {phase : Phase} {w
   pub may-formed : {A : Type 0} → w ≡ StepWords.Malformed → A
   may-formed h = true-false (sym (rw h at (may .may)))
 
+  pub decoded : {step known : Step} → step ≡ stepOr step w → step ≡ known → w ≡ StepWords.Formed known
+  decoded {step} e g = step-formed w step (λ h. may-formed h) e ∙ ap StepWords.Formed g
+
   pub allowed : {step : Step} → w ≡ StepWords.Formed step → allowedIn phase step ≡ true
   allowed {step} h = may-allowed (sizes p s d k) instructions phase step (may-step h)
 
@@ -60,6 +64,9 @@ module _ {p s d : ℕ} {k : Kernel} {instructions : List ℕ} {phase : Phase} {w
 
   pub compute-inside : {i length : ℕ} → w ≡ StepWords.Formed (Compute i) → 2 * k .instructions ≤ length → 2 * i + 1 < length
   compute-inside {i} h q = let l = ltb-true i (k .instructions) (inside (Compute i) h) in omega arith
+
+  pub compute-words : {i : ℕ} → w ≡ StepWords.Formed (Compute i) → isFormed (instructionAt instructions i) ≡ true
+  compute-words {i} h = may-computes (sizes p s d k) instructions phase (Compute i) (may-step h)
 
   -- a spill and a reload run in the sample phase only, a store to a control slot in the control phase only
   pub spill-inside : {slot r : ℕ} → w ≡ StepWords.Formed (Spill slot r) → slot < slotCount phase k
@@ -117,17 +124,12 @@ module _ (n : Sizes) (s : Source) (i j : ℕ) (h : sourceInside n s ≡ true) (q
   inside-control e = let l = ltb-true i (n .controlSlots) (rw e at h) in omega arith
 
 -- ---- an instruction's words
-pub compute-none : (registers : List ℕ) (w ws : InstructionWords) → ws ≡ w → ws ≡ InstructionWords.Malformed → registers ≡ executeWords registers w
-compute-none registers w ws e f = let g : w ≡ InstructionWords.Malformed = sym e ∙ f in rw g
+pub compute-formed : (registers after table : List ℕ) (k : ℕ) (i : Instruction) → isFormed (instructionAt table k) ≡ true
+    → i ≡ instructionOr i (instructionAt table k) → after ≡ execute registers i → after ≡ executeWords registers (instructionAt table k)
+compute-formed registers after table k i h e a =
+    let g : instructionAt table k ≡ InstructionWords.Formed i = instruction-formed (instructionAt table k) i h e in rw g a
 
-pub compute-formed : (registers after : List ℕ) (w ws : InstructionWords) (i : Instruction) → ws ≡ w → ws ≡ InstructionWords.Formed i
-    → after ≡ execute registers i → after ≡ executeWords registers w
-compute-formed registers after w ws i e f h = let g : w ≡ InstructionWords.Formed i = sym e ∙ f in rw g h
-
--- ---- words that were read as a step
-pub decoded : (w ws : StepWords) (step known : Step) → ws ≡ w → ws ≡ StepWords.Formed step → step ≡ known → w ≡ StepWords.Formed known
-decoded w ws step known e f g = sym e ∙ (f ∙ ap StepWords.Formed g)
-
+-- ---- the arms
 module _ (p : Program) (x : Given) (w : StepWords) (registers control spills : List ℕ) (m : Memories) (o e : ℕ) where
   pub arm-load : (source : Source) (r v : ℕ) (after : List ℕ) → w ≡ StepWords.Formed (Load source r) → v ≡ loaded (p .lengths) x control m source
       → after ≡ set registers r v → machine after control spills m o (e + 1) ≡ actWords p x (machine registers control spills m o e) w

@@ -36,6 +36,11 @@ module _ (n : Sizes) (instructions : List ℕ) (phase : Phase) (step : Step) whe
   may-inside e =
       &-both (indexInside n step) (computesFormed instructions step) (&-both (allowedIn phase step) (indexInside n step & computesFormed instructions step) e .1) .0
 
+  pub may-computes : stepMayRun n instructions phase step ≡ true → computesFormed instructions step ≡ true
+  unfolding stepMayRun
+  may-computes e =
+      &-both (indexInside n step) (computesFormed instructions step) (&-both (allowedIn phase step) (indexInside n step & computesFormed instructions step) e .1) .1
+
 -- ---- a step leaves the tables as long as they were
 pub act-kept : (p : Program) (x : Given) (m : Machine) (step : Step) → lengthsOf (act p x m step) ≡ lengthsOf m
 unfolding storeDelay storeState

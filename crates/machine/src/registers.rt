@@ -1,11 +1,11 @@
 // The sixteen registers by value: one is read, one is set, an instruction is executed on them (host.rs, `execute`).
 use kernel::Instruction;
-use kernel::InstructionWords;
 ghost use mathlib.Core.Path.{_≡_};
-ghost use mathlib.Core.Bool.{cond};
+ghost use mathlib.Core.Bool.{true, cond};
 ghost use Prim.Native.Nat.{_+_, _*_, _<_};
 ghost use lib.ListN.{length, set};
 ghost use Rattle.kernel.specs.Instructions.{destination, instructionAt};
+ghost use Rattle.kernel.specs.Lists.{isFormed};
 ghost use Rattle.machine.specs.Machine.{register, result, execute, executeWords};
 
 fn pick(at: bool, value: u32, old: u32) -> u32
@@ -40,37 +40,64 @@ pub fn read(registers: [u32; 16], at: u32) -> u32
     0
 }
 
+struct Operands {
+    lhs: u32,
+    rhs: u32,
+}
+
+// Two registers read from one copy of the array: the compiler puts it where an index can reach it once instead of twice.
+fn read_both(registers: [u32; 16], lhs: u32, rhs: u32) -> Operands
+    ensures { λ r. ⌜ (r .lhs ≡ register registers lhs) × (r .rhs ≡ register registers rhs) ⌝ }
+{
+    let left = lhs as usize;
+    let right = rhs as usize;
+    if left < 16 {
+        if right < 16 {
+            return Operands {
+                lhs: registers[left],
+                rhs: registers[right],
+            };
+        }
+    }
+    let first = read(registers, lhs);
+    let second = read(registers, rhs);
+    Operands {
+        lhs: first,
+        rhs: second,
+    }
+}
+
 fn result(registers: [u32; 16], instruction: Instruction) -> u32
     ensures { λ r. ⌜ r ≡ result registers instruction ⌝ }
 {
     match instruction {
         Instruction::Immediate { dst: _, value } => value,
-        Instruction::Add { dst: _, lhs, rhs } => words::add(
-            read(registers, lhs),
-            read(registers, rhs),
-        ),
-        Instruction::Sub { dst: _, lhs, rhs } => words::sub(
-            read(registers, lhs),
-            read(registers, rhs),
-        ),
-        Instruction::Mul { dst: _, lhs, rhs } => words::mul(
-            read(registers, lhs),
-            read(registers, rhs),
-        ),
-        Instruction::Min { dst: _, lhs, rhs } => words::min(
-            read(registers, lhs),
-            read(registers, rhs),
-        ),
-        Instruction::Max { dst: _, lhs, rhs } => words::max(
-            read(registers, lhs),
-            read(registers, rhs),
-        ),
+        Instruction::Add { dst: _, lhs, rhs } => {
+            let both = read_both(registers, lhs, rhs);
+            words::add(both.lhs, both.rhs)
+        }
+        Instruction::Sub { dst: _, lhs, rhs } => {
+            let both = read_both(registers, lhs, rhs);
+            words::sub(both.lhs, both.rhs)
+        }
+        Instruction::Mul { dst: _, lhs, rhs } => {
+            let both = read_both(registers, lhs, rhs);
+            words::mul(both.lhs, both.rhs)
+        }
+        Instruction::Min { dst: _, lhs, rhs } => {
+            let both = read_both(registers, lhs, rhs);
+            words::min(both.lhs, both.rhs)
+        }
+        Instruction::Max { dst: _, lhs, rhs } => {
+            let both = read_both(registers, lhs, rhs);
+            words::max(both.lhs, both.rhs)
+        }
         Instruction::Neg { dst: _, src } => words::neg(read(registers, src)),
         Instruction::Abs { dst: _, src } => words::abs(read(registers, src)),
-        Instruction::IntegerSub { dst: _, lhs, rhs } => words::integer_sub(
-            read(registers, lhs),
-            read(registers, rhs),
-        ),
+        Instruction::IntegerSub { dst: _, lhs, rhs } => {
+            let both = read_both(registers, lhs, rhs);
+            words::integer_sub(both.lhs, both.rhs)
+        }
     }
 }
 
@@ -122,18 +149,12 @@ pub fn execute(registers: [u32; 16], instruction: Instruction) -> [u32; 16]
     put(registers, destination(instruction), value)
 }
 
-// The registers after an instruction of a table.
+// The registers after an instruction of a table, whose words are one.
 pub fn compute(registers: [u32; 16], instructions: &[u32], instruction: u32) -> [u32; 16]
-    requires { ⌜ 2 * instruction + 1 < length (now instructions) ⌝ }
+    requires { ⌜ (2 * instruction + 1 < length (now instructions)) × (isFormed (instructionAt (now instructions) instruction) ≡ true) ⌝ }
     ensures { λ r. ⌜ r ≡ executeWords registers (instructionAt (now (instructions .entry)) instruction) ⌝ }
 {
     let at = 2 * (instruction as usize);
-    let words = kernel::instructions::instruction_from_words(
-        instructions[at],
-        instructions[at + 1],
-    );
-    let InstructionWords::Formed(formed) = words else {
-        return registers;
-    };
-    execute(registers, formed)
+    let named = kernel::instructions::instruction_of_words(instructions[at], instructions[at + 1]);
+    execute(registers, named)
 }

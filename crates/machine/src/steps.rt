@@ -4,7 +4,6 @@ use kernel::Kernel;
 use kernel::Phase;
 use kernel::Source;
 use kernel::Step;
-use kernel::StepWords;
 use memory::lines;
 ghost use mathlib.Core.Path.{_≡_};
 ghost use mathlib.Core.Bool.{true};
@@ -138,11 +137,8 @@ fn step(
     requires { ⌜ Ready kernel (now instructions) (now delays) (now bases) (now control) (now spills) (now area) (now cursors) × MayRun (length (now settings)) (length (now held)) (length (now cursors)) kernel (now instructions) phase (stepOf word index) ⌝ }
     ensures { λ r. ⌜ ((n : ℕ) → machine r (now (control .exit)) (now (spills .exit)) (memories (now (held .exit)) (now (area .exit)) (now (cursors .exit))) (now (out .exit)) (n + 1) ≡ actWords (program (lineLengths (now (delays .entry))) (now (instructions .entry))) (given audio network (now (settings .entry))) (machine registers (now (control .entry)) (now (spills .entry)) (memories (now (held .entry)) (now (area .entry)) (now (cursors .entry))) (now (out .entry)) n) (stepOf word index)) ⌝ }
 {
-    let words = kernel::steps::step_from_words(word, index);
-    let StepWords::Formed(formed) = words else {
-        return registers;
-    };
-    match formed {
+    let named = kernel::steps::step_of_words(word, index);
+    match named {
         Step::Load { source, register } => {
             let value = loaded(
                 source,
