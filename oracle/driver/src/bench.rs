@@ -16,13 +16,15 @@ use crate::runs::{self, compiled, processor};
 const ROUNDS: usize = 7;
 const ROUND_NANOSECONDS: u64 = 100_000_000;
 
-/// The best of several rounds, taken in turns, so that both sides meet the machine in the same state.
-fn compare<'a>(ours: &mut Ours, name: &str, call: impl Fn() -> Call<'a>, rust: impl Fn()) {
+/// The best of several rounds, taken in turns, so that both sides meet the machine in the same state. `ready` is done before each round of the
+/// Rust: our calls start each round from the words that are sent.
+fn compare<'a>(ours: &mut Ours, name: &str, call: impl Fn() -> Call<'a>, ready: impl Fn(), rust: impl Fn()) {
     let repeats = |once: u64| (ROUND_NANOSECONDS / once.max(1)).clamp(1, 1_000_000) as u32;
     let rust_repeats = repeats(time(1, &rust));
     let ours_repeats = repeats(ours.time(call(), 1));
     let mut best = [f64::INFINITY; 2];
     for _ in 0..ROUNDS {
+        ready();
         let took = [
             ours.time(call(), ours_repeats) as f64 / f64::from(ours_repeats),
             time(rust_repeats, &rust) as f64 / f64::from(rust_repeats),
@@ -44,14 +46,14 @@ pub fn run(ours: &mut Ours) {
     let validate = |ours: &mut Ours, name, tables: Tables| {
         let block: Block = rust(&tables);
         let case = Case::new(Question::Validate, tables);
-        compare(ours, name, || case.call(), || {
+        compare(ours, name, || case.call(), || (), || {
             black_box(&block).validate().unwrap();
         });
     };
     let expand = |ours: &mut Ours, name, tables: Tables| {
         let block: Block = rust(&tables);
         let case = Case::new(Question::Expand { spare: 0 }, tables);
-        compare(ours, name, || case.call(), || {
+        compare(ours, name, || case.call(), || (), || {
             block.validate().unwrap();
             black_box(black_box(&block).expanded());
         });
@@ -100,7 +102,8 @@ fn filters(sections: usize) -> Tables {
     block
 }
 
-/// Both engines on a block, against the Rust's processor, which runs the control steps once for each sample.
+/// Both engines on a block, against the Rust's processor, which runs the control steps once for each sample. Both sides start each round from
+/// fresh memories: a long block's first samples have subnormal values, which take a processor many times as long.
 fn engines(ours: &mut Ours, block: Tables) {
     let random = &mut Random::new(1);
     let input: Vec<u32> = (0..SAMPLES).map(|_| uniform(random, -1.0, 1.0).to_bits()).collect();
@@ -108,19 +111,17 @@ fn engines(ours: &mut Ours, block: Tables) {
     let memories = start(&block);
     let play = Play { block, settings: vec![], memories, input, network: vec![], spare: 0, extra: 0 };
     let heard: Vec<f32> = play.input.iter().map(|&word| f32::from_bits(word)).collect();
-    let run = |processor: Processor| {
+    let run = |ours: &mut Ours, name: &str, question: &runs::Question, processor: Processor| {
         let both = RefCell::new((processor, vec![0.0f32; SAMPLES]));
-        let heard = heard.clone();
-        move || {
+        let ready = || both.borrow_mut().0.reset();
+        compare(ours, &format!("{name}, {nodes} nodes, {SAMPLES} samples"), || question.call(), ready, || {
             let (processor, output) = &mut *both.borrow_mut();
             processor.process(black_box(&heard), black_box(output)).unwrap();
-        }
+        });
     };
-    let graph = runs::Case::Graph.question(&play).expect("a block that runs");
-    let rust = run(processor(&play, None).expect("a block that runs"));
-    compare(ours, &format!("graph run, {nodes} nodes, {SAMPLES} samples"), || graph.call(), rust);
-    let steps = runs::Case::Steps(u16::MAX).question(&play).expect("a kernel that runs");
+    let question = runs::Case::Graph.question(&play).expect("a block that runs");
+    run(ours, "graph run", &question, processor(&play, None).expect("a block that runs"));
+    let question = runs::Case::Steps(u16::MAX).question(&play).expect("a kernel that runs");
     let kernel = compiled(&play, u16::MAX).expect("a kernel that runs");
-    let rust = run(processor(&play, Some(kernel)).expect("a kernel that runs"));
-    compare(ours, &format!("step run, {nodes} nodes, {SAMPLES} samples"), || steps.call(), rust);
+    run(ours, "step run", &question, processor(&play, Some(kernel)).expect("a kernel that runs"));
 }
