@@ -32,12 +32,13 @@ pub expand-refused : (b : Block) (l : List ℕ) (v : Verdict) (r : Refusal) → 
 unfolding expandAnswer tableAfter
 expand-refused b l v r e h = expand-is b l (N.refusal r) (then-stop _ (sym e ∙ ap N.answerOf h))
 
-module _ (b : Block) (l : List ℕ) (v : Verdict) (r : ℕ) (e : N.answerOf v ≡ validation b) (h : v ≡ Verdicts.Valid) (s : r ≡ min (expandedLength b) 65537) where
-  accepted-is : validation b ≡ accepted tt
-  accepted-is = sym e ∙ ap N.answerOf h
+-- a block that validation accepts
+pub expand-accepted : (b : Block) (v : Verdict) → N.answerOf v ≡ validation b → v ≡ Verdicts.Valid → validation b ≡ accepted tt
+expand-accepted b v e h = sym e ∙ ap N.answerOf h
 
+module _ (b : Block) (l : List ℕ) (r : ℕ) (judged : validation b ≡ accepted tt) (s : r ≡ min (expandedLength b) 65537) where
   is-valid : Valid b
-  is-valid = valid b accepted-is
+  is-valid = valid b judged
 
   -- nothing was counted in vain
   total-is : r ≡ expandedLength b
@@ -47,7 +48,7 @@ module _ (b : Block) (l : List ℕ) (v : Verdict) (r : ℕ) (e : N.answerOf v �
   unfolding expandAnswer tableAfter
   expand-short q =
       expand-is b l (refused 13 [])
-      (then-pass _ accepted-is ∙ refuse-stop 13 _ (lt-ltb (length l) (3 * expandedLength b) (omega (arith, total-is))))
+      (then-pass _ judged ∙ refuse-stop 13 _ (lt-ltb (length l) (3 * expandedLength b) (omega (arith, total-is))))
 
   module _ (room : 3 * r ≤ length l) where
     -- the map has room, and its words are words
@@ -81,4 +82,4 @@ module _ (b : Block) (l : List ℕ) (v : Verdict) (r : ℕ) (e : N.answerOf v �
         let all : o ≡ wordsOf (expansion b) ++ drop (3 * expandedLength b) l = d ∙ rw (rest, total-is) in
         rw (all, place, total-is)
         (expand-is b l (accepted (record { length = expandedLength b; output = mappedOutput b }))
-        (then-pass _ accepted-is ∙ refuse-pass 13 _ (le-ltb (length l) (3 * expandedLength b) (omega (arith, total-is)))))
+        (then-pass _ judged ∙ refuse-pass 13 _ (le-ltb (length l) (3 * expandedLength b) (omega (arith, total-is)))))

@@ -2,6 +2,7 @@
 mod in_place;
 mod macros;
 mod map;
+pub mod valid;
 
 use answers::Refusal;
 use answers::Verdict;
@@ -41,19 +42,7 @@ pub fn expand(
     if let Verdict::Refused(refusal) = verdict {
         return Expansion::Refused(refusal);
     }
-    let total = kinds::expanded_length(nodes);
-    if table.len() < 3 * total {
-        return Expansion::Refused(Refusal::TableTooShort);
-    }
-    map::write_map(nodes, table, kinds::TANH_STEPS);
-    // The map's word of the output, before the nodes are written over the map.
-    let index = header.output as usize;
-    let output = table[index];
-    in_place::expand_nodes(nodes, table, total, kinds::TANH_STEPS);
-    Expansion::Accepted(Expanded {
-        length: total as u32,
-        output,
-    })
+    valid::expand(header, parameters, states, delays, nodes, table)
 }
 
 // The last expanded node of each node over the table's first words, and true. Where the table has fewer words than there are nodes, or the expansion

@@ -86,7 +86,7 @@ fn render(
     let count = kinds::expanded_length(nodes);
     let last = header.output;
     let flag = header.network;
-    expand::expand(header, parameters, states, delays, nodes, expansion);
+    expand::valid::expand(header, parameters, states, delays, nodes, expansion);
     expand::map_nodes(nodes, values);
     plan::play(
         expansion,

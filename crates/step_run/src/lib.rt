@@ -159,7 +159,7 @@ fn render(
     ensures { λ r. ⌜ outcome (answerOf (r .answer)) (tables (now (expansion .exit)) (now (control .exit)) (now (spills .exit)) (rendered (now (output .exit)) (memories (now (held .exit)) (now (area .exit)) (now (cursors .exit)))) (r .registers)) ≡ runCall (block header (now (parameters .entry)) (now (states .entry)) (now (delays .entry)) (now (nodes .entry))) (codeOf kernel (now (steps .entry)) (now (instructions .entry))) budget (signals (now (settings .entry)) (now (input .entry)) (now (network .entry))) (tables (now (expansion .entry)) (now (control .entry)) (now (spills .entry)) (rendered (now (output .entry)) (memories (now (held .entry)) (now (area .entry)) (now (cursors .entry)))) registers) ⌝ }
 {
     let flag = header.network;
-    expand::expand(header, parameters, states, delays, nodes, expansion);
+    expand::valid::expand(header, parameters, states, delays, nodes, expansion);
     let count = budget::samples_done(kernel, budget, input.len());
     if count == 0 {
         let none = Answer::Accepted(Done {

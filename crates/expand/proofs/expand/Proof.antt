@@ -1,26 +1,14 @@
--- `expand`: each way out is a case of the definition; a valid block's map has room, and its operands stand before their nodes. Assumes nothing.
+-- `expand`: a refusal of validation is handed on, and what it accepts is valid. Assumes nothing.
+use Rattle.expand.specs.Calls.{expand-refused, expand-accepted}
 use borrow.Author.Needs.{needs}
-use Rattle.expand.specs.Calls.{expand-refused, expand-short, map-room, output-within, all-ready, expand-done}
 use Rattle.expand.proofs.expand.Statement.{statement}
 use Rattle.expand.proofs.expand.Tie as tie
 
 returns : tie.Need-returns
 returns c = expand-refused _ _ _ _ (c .before .before .before .validate .ensures) (c .before .verdict .given .1)
 
-returns-2 : tie.Need-returns-2
-returns-2 c = expand-short _ _ _ _ (c .before .before .before .before .validate .ensures) (c .before .before .enum-told .given .1) (c .before .expanded-length .ensures) (c .if1 .taken)
-
-write-map-requires : tie.Need-write-map-requires
-write-map-requires c κs = map-room _ (c .before .before .before .before .before .before .before .before .before .before .before .args .table .now) _ _ (c .before .before .before .before .before .validate .ensures) (c .before .before .before .enum-told .given .1) (c .before .before .expanded-length .ensures) (c .before .if1 .left)
-
-slice-read-output : tie.Need-slice-read-output
-slice-read-output c = output-within _ _ _ _ (c .before .before .before .before .before .before .before .before .before .before .validate .ensures) (c .before .before .before .before .before .before .before .before .enum-told .given .1) (c .before .before .before .before .before .before .before .expanded-length .ensures) (c .before .before .before .before .before .before .if1 .left) _ (c .before .before .before .before .write-map .ensures)
-
-expand-nodes-requires : tie.Need-expand-nodes-requires
-expand-nodes-requires c κs = all-ready _ _ _ _ (c .before .before .before .before .before .before .before .before .before .before .before .validate .ensures) (c .before .before .before .before .before .before .before .before .before .enum-told .given .1) (c .before .before .before .before .before .before .before .before .expanded-length .ensures) (c .before .before .before .before .before .before .before .if1 .left) _ (c .before .before .before .before .before .write-map .ensures)
-
-returns-3 : tie.Need-returns-3
-returns-3 c = expand-done _ _ _ _ (c .before .before .before .before .before .before .before .before .before .before .before .before .before .before .validate .ensures) (c .before .before .before .before .before .before .before .before .before .before .before .before .enum-told .given .1) (c .before .before .before .before .before .before .before .before .before .before .before .expanded-length .ensures) (c .before .before .before .before .before .before .before .before .before .before .if1 .left) _ _ (c .before .before .before .before .before .before .before .before .write-map .ensures) (c .before .before .expand-nodes .ensures)
+expand-requires : tie.Need-expand-requires
+expand-requires c κs = expand-accepted _ _ (c .before .before .before .validate .ensures) (c .before .enum-told .given .1)
 
 pub expand-spec : {M : Type 1} → statement M
 expand-spec =
@@ -30,14 +18,6 @@ expand-spec =
     (λ c. search needs)
     returns
     (λ c. search needs)
-    (λ c κs. search needs)
+    expand-requires
     (λ c. search needs)
-    returns-2
-    write-map-requires
-    (λ c. search needs)
-    (λ c. search needs)
-    slice-read-output
-    expand-nodes-requires
-    (λ c. search needs)
-    (λ c. search needs)
-    returns-3)
+    (λ c. search needs))

@@ -6,6 +6,9 @@ use borrow.Author.Needs.{needs}
 use Rattle.graph_run.proofs.render.Statement.{statement}
 use Rattle.graph_run.proofs.render.Tie as tie
 
+expand-requires : tie.Need-expand-requires
+expand-requires c κs = accepted-run _ _ _ (c .before .before .before .before .before .before .before .before .before .before .before .before .before .before .before .pre) .judged
+
 play-requires : tie.Need-play-requires
 play-requires c κs = let a = accepted-run _ _ _ (c .before .before .before .before .before .before .before .before .before .before .before .before .before .before .before .before .before .before .before .before .before .before .before .before .before .before .before .before .pre) in let g = (begun _ _ _ _ _ _ _ _ (c .before .before .before .before .before .before .before .before .before .before .before .before .before .before .before .before .before .before .before .before .before .before .before .before .before .before .before .before .pre) (c .before .before .before .before .before .before .before .before .before .before .before .before .before .before .expanded-length .ensures) (c .before .before .before .before .before .before .before .before .before .before .before .before .expand .ensures) (c .before .before .before .before .before .before .before .before .map-nodes .ensures)) in (begun-planned _ _ _ a _ _ _ g, begun-lent _ _ _ a _ _ _ g)
 
@@ -32,7 +35,7 @@ render-spec =
     tie.close
     (tie.spec
     (λ c κs. search needs)
-    (λ c κs. search needs)
+    expand-requires
     (λ c κs. search needs)
     play-requires
     (λ c κs. search needs)

@@ -5,6 +5,9 @@ use borrow.Author.Needs.{needs}
 use Rattle.step_run.proofs.render.Statement.{statement}
 use Rattle.step_run.proofs.render.Tie as tie
 
+expand-requires : tie.Need-expand-requires
+expand-requires c κs = accepted-run _ _ _ _ (c .before .before .before .before .before .before .before .before .before .before .before .before .before .before .before .before .before .pre) .judged
+
 samples-done-requires : tie.Need-samples-done-requires
 samples-done-requires c κs = some-steps _ _ _ _ (accepted-run _ _ _ _ (c .before .before .before .before .before .before .before .before .before .before .before .before .before .before .before .before .before .before .before .before .pre))
 
@@ -24,7 +27,7 @@ pub render-spec : {M : Type 1} → statement M
 render-spec =
     tie.close
     (tie.spec
-    (λ c κs. search needs)
+    expand-requires
     samples-done-requires
     (λ c. search needs)
     returns
