@@ -1,0 +1,14 @@
+-- `control_at`: the region of the control slots. Assumes nothing.
+use Rattle.checker.specs.Table.{heldOf}
+use borrow.Author.Needs.{needs}
+use Rattle.checker.proofs.table.control_at.Statement.{statement}
+use Rattle.checker.proofs.table.control_at.Tie as tie
+
+returns : tie.Need-returns
+unfolding heldOf
+returns c = c .read-in .ensures
+
+pub control-at-spec : {M : Type 1} → statement M
+control-at-spec =
+    tie.close
+    (tie.spec (λ c. search needs) (λ c. search needs) (λ c. search needs) (λ c. search needs) (λ c. search needs) (λ c κs. search needs) returns)
