@@ -1,0 +1,8 @@
+-- Demand 3, last sentence: the compiler's list always passes the checker. Statements over the definitions of compile and check; no code.
+-- a walk over actions that tracks what each register and slot holds, a device of the proof: what the allocator emits goes through it
+pub mod Marks
+pub mod Tracking
+pub mod Tracked
+pub mod TrackedTasks
+pub mod TrackedRun
+pub mod TrackedPhases

@@ -1,0 +1,1 @@
+// What compile emits passes the checker: statements over the definitions, no code.
