@@ -6,3 +6,6 @@ pub mod Tracked
 pub mod TrackedTasks
 pub mod TrackedRun
 pub mod TrackedPhases
+-- how often each memory is stored
+pub mod Stores
+pub mod Writes
