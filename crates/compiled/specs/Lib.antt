@@ -9,3 +9,15 @@ pub mod TrackedPhases
 -- how often each memory is stored
 pub mod Stores
 pub mod Writes
+-- the walk's rules are the checker's: what `find` finds for a node is its class
+pub mod Finds
+pub mod Codes
+pub mod Meanings
+pub mod DraftWalks
+-- what goes through the walk, as words in two tables, passes the checker
+pub mod Operations
+pub mod Went
+pub mod Stands
+pub mod Passes
+pub mod SamplePasses
+pub mod Left
