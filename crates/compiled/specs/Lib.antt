@@ -20,4 +20,8 @@ pub mod Went
 pub mod Stands
 pub mod Passes
 pub mod SamplePasses
+pub mod ControlPasses
 pub mod Left
+pub mod Walked
+-- THE THEOREMS: `compile-passes`, `compile-meets`, `compiled-checks`, `valid-checks`
+pub mod CompilePasses
