@@ -25,3 +25,4 @@ pub mod Left
 pub mod Walked
 -- THE THEOREMS: `compile-passes`, `compile-meets`, `compiled-checks`, `valid-checks`
 pub mod CompilePasses
+pub mod CompiledChecks
