@@ -1,0 +1,12 @@
+-- The house file of document 01: 512-byte blocks that hold an effect block or a rendering.
+-- bytes and words
+pub mod Bytes
+-- the blocks of a file that is read, and its answers 20 and 21
+pub mod Frame
+-- the blocks of a file that is written
+pub mod File
+-- what the payload says
+pub mod Payload
+-- the four calls
+pub mod Read
+pub mod Write
