@@ -12,6 +12,10 @@ wordFrom bytes at =
 abbrev pub wordAt : List ℕ → ℕ → ℕ
 wordAt bytes i = wordFrom bytes (4 * i)
 
+-- word i of the bytes from the place `at` on
+abbrev pub wordsFrom : List ℕ → ℕ → ℕ → ℕ
+wordsFrom bytes at i = wordFrom bytes (at + 4 * i)
+
 -- the four bytes of a word
 abbrev pub fourBytes : ℕ → List ℕ
 fourBytes w = w % 256 ∷ w / 256 % 256 ∷ w / 65536 % 256 ∷ w / 16777216 ∷ []

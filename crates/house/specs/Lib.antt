@@ -1,8 +1,11 @@
 -- The house file of document 01: 512-byte blocks that hold an effect block or a rendering.
 -- bytes and words
 pub mod Bytes
+pub mod BytesLaws
 -- the blocks of a file that is read, and its answers 20 and 21
 pub mod Frame
+pub mod FrameLaws
+pub mod PayloadLaws
 -- the blocks of a file that is written
 pub mod File
 -- what the payload says

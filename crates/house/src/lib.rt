@@ -1,4 +1,8 @@
 // The house file of document 01: an effect block or a rendering in 512-byte blocks, read and written.
+mod frame;
+mod payload;
+mod words;
+
 use answers::Refusal;
 use block::Header;
 
