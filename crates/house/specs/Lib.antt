@@ -1,11 +1,8 @@
 -- The house file of document 01: 512-byte blocks that hold an effect block or a rendering.
 -- bytes and words
 pub mod Bytes
-pub mod BytesLaws
 -- the blocks of a file that is read, and its answers 20 and 21
 pub mod Frame
-pub mod FrameLaws
-pub mod PayloadLaws
 -- the blocks of a file that is written
 pub mod File
 -- what the payload says
@@ -13,3 +10,9 @@ pub mod Payload
 -- the four calls
 pub mod Read
 pub mod Write
+-- laws that the proofs of the code cite
+pub mod BytesLaws
+pub mod FrameLaws
+pub mod PayloadLaws
+pub mod Framed
+pub mod ReadLaws

@@ -1,10 +1,22 @@
 // The house file of document 01: an effect block or a rendering in 512-byte blocks, read and written.
+mod effect;
 mod frame;
 mod payload;
 mod words;
 
 use answers::Refusal;
+use answers::Verdict;
 use block::Header;
+ghost use mathlib.Core.Path.{_≡_};
+ghost use Rattle.house.specs.Payload.{engineOf};
+ghost use Rattle.house.specs.Read.{tables, blockAnswerOf, blockOutcome, readBlockCall, renderingAnswerOf, renderingOutcome, readRenderingCall};
+
+// The kinds of a file.
+const EFFECT_KIND: u32 = 1;
+
+const GRAPH_KIND: u32 = 2;
+
+const STEP_KIND: u32 = 3;
 
 // What an effect block's file says besides its four tables: the header, and how many records each table has.
 pub struct Contents {
@@ -43,4 +55,65 @@ pub enum RenderingRead {
 pub enum Written {
     Bytes(usize),
     Refused(Refusal),
+}
+
+// The engine of a kind of rendering.
+fn engine_of(kind: u32) -> Engine
+    ensures { λ r. ⌜ r ≡ engineOf kind ⌝ }
+{
+    if kind == GRAPH_KIND {
+        return Engine::Graph;
+    }
+    Engine::Steps
+}
+
+// Reads a rendering's samples over the first words of a lent table, and says which engine made it. Nothing is written where the answer is a refusal.
+pub fn read_rendering(bytes: &[u8], samples: &mut [u32]) -> RenderingRead
+    ensures { λ r. ⌜ renderingOutcome (renderingAnswerOf r) (now (samples .exit)) ≡ readRenderingCall (now (bytes .entry)) (now (samples .entry)) ⌝ }
+{
+    let verdict = frame::judge(bytes, GRAPH_KIND, STEP_KIND);
+    if let Verdict::Refused(refusal) = verdict {
+        return RenderingRead::Refused(refusal);
+    }
+    let held = payload::first_word(bytes, 0);
+    let count = held as usize;
+    if payload::payload_length(bytes) != 1 + count {
+        return RenderingRead::Refused(Refusal::BadFrame);
+    }
+    if samples.len() < count {
+        return RenderingRead::Refused(Refusal::TableTooShort);
+    }
+    payload::copy_section(bytes, 1, samples, count);
+    let engine = engine_of(frame::block_word(bytes, 0, 0));
+    RenderingRead::Read(Rendering {
+        engine,
+        samples: held,
+    })
+}
+
+// Reads an effect block: its header and counts, and its tables over the first words of four lent ones. The block is not validated. Nothing is written
+// where the answer is a refusal.
+pub fn read_block(
+    bytes: &[u8],
+    parameters: &mut [u32],
+    states: &mut [u32],
+    delays: &mut [u32],
+    nodes: &mut [u32],
+) -> BlockRead
+    ensures { λ r. ⌜ blockOutcome (blockAnswerOf r) (tables (now (parameters .exit)) (now (states .exit)) (now (delays .exit)) (now (nodes .exit)))
+        ≡ readBlockCall (now (bytes .entry)) (tables (now (parameters .entry)) (now (states .entry)) (now (delays .entry)) (now (nodes .entry))) ⌝ }
+{
+    let verdict = frame::judge(bytes, EFFECT_KIND, EFFECT_KIND);
+    if let Verdict::Refused(refusal) = verdict {
+        return BlockRead::Refused(refusal);
+    }
+    let read = effect::contents(bytes);
+    if payload::payload_length(bytes) != effect::contents_end(read) {
+        return BlockRead::Refused(Refusal::BadFrame);
+    }
+    if effect::tables_short(read, parameters, states, delays, nodes) {
+        return BlockRead::Refused(Refusal::TableTooShort);
+    }
+    effect::copy_tables(bytes, read, parameters, states, delays, nodes);
+    BlockRead::Read(read)
 }
