@@ -1,7 +1,7 @@
 -- Document 01, "House file": the file of a kind and a payload, as it is written. Definitions alone.
 use mathlib.Core.List.{List, [], _∷_, _++_}
 use Prim.Native.Nat.{ℕ, zero, suc, _+_, _-_, _*_, _/_}
-use lib.ListN.{length}
+use lib.ListN.{length, getD}
 use Rattle.tables.specs.Parts.{part}
 use Rattle.tables.specs.Zeros.{zeros}
 use Rattle.house.specs.Bytes.{bytesOf, wrappingSum, allOnes}
@@ -24,6 +24,10 @@ blockWords kind number words = closed (kind ∷ number ∷ length words ∷ padd
 -- "Each block but the last uses 124; the last 1..124": what block b has of a payload
 unfoldable pub share : List ℕ → ℕ → List ℕ
 share payload b = part (124 * b) 124 payload
+
+-- the same word by word, with zeros past the end
+abbrev pub shareWord : List ℕ → ℕ → ℕ → ℕ
+shareWord payload from i = getD payload (from + i) 0
 
 abbrev pub blocksFor : ℕ → ℕ
 blocksFor count = (count + 123) / 124

@@ -16,3 +16,4 @@ pub mod FrameLaws
 pub mod PayloadLaws
 pub mod Framed
 pub mod ReadLaws
+pub mod Gather

@@ -67,8 +67,11 @@ headWords c =
     ∷ c .header .output
     ∷ []
 
-unfoldable pub blockPayload : Block → List ℕ
-blockPayload b = headWords (contentsOf b) ++ b .parameters ++ b .states ++ b .delays ++ b .nodes
+abbrev pub effectPayload : Contents → List ℕ → List ℕ → List ℕ → List ℕ → List ℕ
+effectPayload c parameters states delays nodes = headWords c ++ (parameters ++ (states ++ (delays ++ nodes)))
+
+abbrev pub blockPayload : Block → List ℕ
+blockPayload b = effectPayload (contentsOf b) (b .parameters) (b .states) (b .delays) (b .nodes)
 
 abbrev pub blockFile : Block → List ℕ
 blockFile b = fileOf effectKind (blockPayload b)

@@ -1,6 +1,8 @@
 // The house file of document 01: an effect block or a rendering in 512-byte blocks, read and written.
+mod blocks;
 mod effect;
 mod frame;
+mod gather;
 mod payload;
 mod words;
 
