@@ -17,3 +17,5 @@ pub mod PayloadLaws
 pub mod Framed
 pub mod ReadLaws
 pub mod Gather
+pub mod FileLaws
+pub mod WriteLaws

@@ -1,7 +1,7 @@
 -- Document 01, "House file": writing an effect block and a rendering. "Writing validates"; "over 2^32-1 samples is 13". Definitions alone.
 use mathlib.Core.Bool.{_||_}
 use mathlib.Core.List.{List}
-use Prim.Native.Nat.{ℕ, suc}
+use Prim.Native.Nat.{ℕ}
 use lib.ListN.{length}
 use lib.Dec.{ltb}
 use Rattle.tables.specs.Zeros.{copied}
@@ -13,7 +13,7 @@ use Rattle.house.specs.declared.Engine.{Engine}
 use Rattle.house.specs.declared.Written.{Written}
 use Rattle.house.specs.declared.Written.the-variants as W
 use Rattle.house.specs.File.{fileLength}
-use Rattle.house.specs.Payload.{blockPayload, blockFile, renderingFile}
+use Rattle.house.specs.Payload.{blockPayload, blockFile, renderingPayload, renderingFile}
 
 -- what the code's answer says in the document's numbers: how many bytes the file has
 abbrev pub writtenOf : Written → Answer ℕ
@@ -49,7 +49,7 @@ abbrev pub mostSamples : ℕ
 mostSamples = 4294967295
 
 abbrev pub renderingBytes : List ℕ → ℕ
-renderingBytes samples = fileLength (suc (length samples))
+renderingBytes samples = fileLength (length (renderingPayload samples))
 
 unfoldable pub writeRenderingAnswer : List ℕ → List ℕ → Answer ℕ
 writeRenderingAnswer samples bytes =

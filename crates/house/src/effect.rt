@@ -7,7 +7,9 @@ ghost use mathlib.Core.Bool.{false};
 ghost use Prim.Native.Nat.{_*_, _/_, _≤_};
 ghost use lib.ListN.{length};
 ghost use Rattle.answers.specs.Numbers.{accepted};
-ghost use Rattle.house.specs.Payload.{contentsIn, statesAt, delaysAt, nodesAt, contentsEnd};
+ghost use Rattle.house.specs.Payload.{contentsIn, contentsOf, statesAt, delaysAt, nodesAt, contentsEnd};
+ghost use Rattle.block.specs.Block.{block};
+ghost use Rattle.house.specs.WriteLaws.{Small};
 ghost use Rattle.house.specs.Read.{tables, tablesShort, readTables};
 
 // The header and the counts: the payload's first nine words.
@@ -28,6 +30,30 @@ pub fn contents(bytes: &[u8]) -> Contents
         states: payload::first_word(bytes, 5),
         delays: payload::first_word(bytes, 6),
         nodes: payload::first_word(bytes, 7),
+    }
+}
+
+// The header and the counts of a block that is written.
+pub fn contents_of(
+    header: Header,
+    parameters: &[u32],
+    states: &[u32],
+    delays: &[u32],
+    nodes: &[u32],
+) -> Contents
+    requires { ⌜ Small (now parameters) (now states) (now delays) (now nodes) ⌝ }
+    ensures { λ r. ⌜ r ≡ contentsOf (block header (now (parameters .entry)) (now (states .entry)) (now (delays .entry)) (now (nodes .entry))) ⌝ }
+{
+    let first = (parameters.len() / 3) as u32;
+    let second = (states.len() / 2) as u32;
+    let third = (delays.len() / 2) as u32;
+    let fourth = (nodes.len() / 3) as u32;
+    Contents {
+        header,
+        parameters: first,
+        states: second,
+        delays: third,
+        nodes: fourth,
     }
 }
 

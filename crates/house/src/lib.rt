@@ -10,8 +10,10 @@ use answers::Refusal;
 use answers::Verdict;
 use block::Header;
 ghost use mathlib.Core.Path.{_≡_};
-ghost use Rattle.house.specs.Payload.{engineOf};
+ghost use Rattle.house.specs.Payload.{kindOf, engineOf};
 ghost use Rattle.house.specs.Read.{tables, blockAnswerOf, blockOutcome, readBlockCall, renderingAnswerOf, renderingOutcome, readRenderingCall};
+ghost use Rattle.block.specs.Block.{block};
+ghost use Rattle.house.specs.Write.{writtenOf, outcome, writeBlockCall, writeRenderingCall};
 
 // The kinds of a file.
 const EFFECT_KIND: u32 = 1;
@@ -19,6 +21,9 @@ const EFFECT_KIND: u32 = 1;
 const GRAPH_KIND: u32 = 2;
 
 const STEP_KIND: u32 = 3;
+
+// Over this many samples a rendering is not written.
+const MOST_SAMPLES: usize = 0xffff_ffff;
 
 // What an effect block's file says besides its four tables: the header, and how many records each table has.
 pub struct Contents {
@@ -118,4 +123,55 @@ pub fn read_block(
     }
     effect::copy_tables(bytes, read, parameters, states, delays, nodes);
     BlockRead::Read(read)
+}
+
+// The kind of an engine's renderings.
+fn kind_of(engine: Engine) -> u32
+    ensures { λ r. ⌜ r ≡ kindOf engine ⌝ }
+{
+    match engine {
+        Engine::Graph => GRAPH_KIND,
+        Engine::Steps => STEP_KIND,
+    }
+}
+
+// Writes a rendering's file over the first bytes of a lent buffer: 13 where there are too many samples or too few bytes, and then nothing is written.
+pub fn write_rendering(engine: Engine, samples: &[u32], bytes: &mut [u8]) -> Written
+    ensures { λ r. ⌜ outcome (writtenOf r) (now (bytes .exit)) ≡ writeRenderingCall engine (now (samples .entry)) (now (bytes .entry)) ⌝ }
+{
+    if MOST_SAMPLES < samples.len() {
+        return Written::Refused(Refusal::TableTooShort);
+    }
+    let need = 512 * blocks::blocks_for(samples.len() + 1);
+    if bytes.len() < need {
+        return Written::Refused(Refusal::TableTooShort);
+    }
+    blocks::write_samples(kind_of(engine), samples, bytes);
+    Written::Bytes(need)
+}
+
+// Validates an effect block and writes its file over the first bytes of a lent buffer: 13 where there are too few bytes. A refusal leaves the buffer.
+pub fn write_block(
+    header: Header,
+    parameters: &[u32],
+    states: &[u32],
+    delays: &[u32],
+    nodes: &[u32],
+    bytes: &mut [u8],
+) -> Written
+    ensures { λ r. ⌜ outcome (writtenOf r) (now (bytes .exit))
+        ≡ writeBlockCall (block header (now (parameters .entry)) (now (states .entry)) (now (delays .entry)) (now (nodes .entry))) (now (bytes .entry)) ⌝ }
+{
+    let verdict = block::validate(header, parameters, states, delays, nodes);
+    if let Verdict::Refused(refusal) = verdict {
+        return Written::Refused(refusal);
+    }
+    let contents = effect::contents_of(header, parameters, states, delays, nodes);
+    let count = 9 + parameters.len() + states.len() + delays.len() + nodes.len();
+    let need = 512 * blocks::blocks_for(count);
+    if bytes.len() < need {
+        return Written::Refused(Refusal::TableTooShort);
+    }
+    blocks::write_tables(contents, parameters, states, delays, nodes, bytes);
+    Written::Bytes(need)
 }
