@@ -19,3 +19,5 @@ pub mod ReadLaws
 pub mod Gather
 pub mod FileLaws
 pub mod WriteLaws
+pub mod ReadBack
+pub mod Canonical
