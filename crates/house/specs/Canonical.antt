@@ -70,6 +70,10 @@ bytes-of-words (suc n) (a ∷ b ∷ c ∷ d ∷ x) l h =
     ap bytesOf e ∙ (ap (λ (y : ℕ). fourBytes y ++ bytesOf (listOf (wordAt x) n)) (word-first a b c d x)
     ∙ (four-of a b c d (h 0) (h 1) (h 2) (h 3) (bytesOf (listOf (wordAt x) n)) ∙ ap (λ (y : List ℕ). a ∷ b ∷ c ∷ d ∷ y) r))
 
+list-next : (g : ℕ → ℕ) (n : ℕ) → listOf g (suc n) ≡ listOf g n ++ (g n ∷ [])
+unfolding listOf
+list-next g n = refl
+
 -- ---- the words of an accepted file, block by block
 module _ (low high : ℕ) (x : List ℕ) (f : Framed low high x) (h : Each Byte x) where
   -- a payload word of block b, used or not
@@ -100,3 +104,70 @@ module _ (low high : ℕ) (x : List ℕ) (f : Framed low high x) (h : Each Byte 
           past : Dec (b + 1 < blockCount x) → usedIn x b ≤ i
           past (yes y) = let l = last .least in absurd (omega arith)
           past (no y) = let e : b ≡ blockCount x - 1 = omega arith in rw e (omega (arith, e))
+
+  -- the used count is the length of the share
+  used-here : (b : ℕ) → b < blockCount x → usedIn x b ≡ length (share (payloadOf x) b)
+  unfolding payloadLength
+  used-here b g = go (decLt (b + 1) (blockCount x))
+    where
+      s : Sound low high x b
+      s = f .sound b g
+
+      n : length (payloadOf x) ≡ payloadLength x
+      n = list-length (payloadWord x) (payloadLength x)
+
+      e : length (share (payloadOf x) b) ≡ min 124 (length (payloadOf x) - 124 * b)
+      e = share-length (payloadOf x) b
+
+      go : Dec (b + 1 < blockCount x) → usedIn x b ≡ length (share (payloadOf x) b)
+      go (yes y) =
+          let i = s .inner y in
+          let l = f .sound (blockCount x - 1) (omega arith) .least in
+          omega (arith, n, e)
+      go (no y) =
+          let z : b ≡ blockCount x - 1 = omega arith in
+          let m = s .most in
+          let u : usedIn x b ≡ usedIn x (blockCount x - 1) = ap (usedIn x) z in
+          omega (arith, n, e)
+
+  -- the first 127 words of block b
+  body-here : (b : ℕ) → b < blockCount x → listOf (blockWord x b) 127 ≡ kindIn x 0 ∷ b ∷ length (share (payloadOf x) b) ∷ padded (share (payloadOf x) b)
+  unfolding listOf
+  body-here b g =
+      let s = f .sound b g in
+      let p : listOf (shifted (blockWord x b) 3) 124 ≡ padded (share (payloadOf x) b) =
+      list-same (shifted (blockWord x b) 3) (shareWord (payloadOf x) (124 * b)) 124 (payload-here b g) ∙ share-is (payloadOf x) b in
+      list-add (blockWord x b) 3 124 ∙ rw (s .kind, s .number, used-here b g, p)
+
+  -- all of them: the check is the one that the sum asks for
+  block-here : (b : ℕ) → b < blockCount x → listOf (blockWord x b) 128 ≡ blockWords (kindIn x 0) b (share (payloadOf x) b)
+  unfolding total blockWord
+  block-here b g =
+      let e : listOf (blockWord x b) 128 ≡ listOf (blockWord x b) 127 ++ (blockWord x b 127 ∷ []) = list-next (blockWord x b) 127 in
+      let t = total-append (listOf (blockWord x b) 127) (blockWord x b 127 ∷ []) in
+      let s : (total (listOf (blockWord x b) 127 ++ (blockWord x b 127 ∷ []))) % 4294967296 ≡ 4294967295 = ap wrappingSum (sym e) ∙ f .sound b g .sums in
+      let w = word-small x h (4 * (128 * b + 127)) in
+      let c : blockWord x b 127 ≡ checkOf (listOf (blockWord x b) 127) = omega arith in
+      e ∙ (ap (λ (y : ℕ). listOf (blockWord x b) 127 ++ (y ∷ [])) c ∙ ap closed (body-here b g))
+
+  words-here : (n : ℕ) → n ≤ blockCount x → listOf (wordAt x) (128 * n) ≡ fileWords (kindIn x 0) (payloadOf x) n
+  unfolding listOf fileWords blockWord
+  words-here zero g = refl
+  words-here (suc n) g =
+      let z : 128 * suc n ≡ 128 * n + 128 = omega arith in
+      ap (listOf (wordAt x)) z
+      ∙ (list-add (wordAt x) (128 * n) 128
+      ∙ (ap (λ (y : List ℕ). y ++ listOf (shifted (wordAt x) (128 * n)) 128) (words-here n (omega arith)) ∙ ap (λ (y : List ℕ). fileWords (kindIn x 0) (payloadOf x) n ++ y) (block-here n g)))
+
+  -- A FILE WHOSE FRAME IS ACCEPTED IS THE ONE THAT IS WRITTEN of its kind and its payload
+  pub canonical : x ≡ fileOf (kindIn x 0) (payloadOf x)
+  unfolding fileOf payloadLength
+  canonical =
+      let w = f .whole in
+      let o = f .some in
+      let s = f .sound (blockCount x - 1) (omega arith) in
+      let l = s .least in
+      let m = s .most in
+      let n = list-length (payloadWord x) (payloadLength x) in
+      let q : blockCount x ≡ blocksFor (length (payloadOf x)) = omega arith in
+      sym (bytes-of-words (128 * blockCount x) x (omega arith) h) ∙ (ap bytesOf (words-here (blockCount x) (omega arith)) ∙ ap (λ (y : ℕ). bytesOf (fileWords (kindIn x 0) (payloadOf x) y)) q)

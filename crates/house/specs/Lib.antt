@@ -21,3 +21,4 @@ pub mod FileLaws
 pub mod WriteLaws
 pub mod ReadBack
 pub mod Canonical
+pub mod Theorems
