@@ -22,3 +22,4 @@ pub mod WriteLaws
 pub mod ReadBack
 pub mod Canonical
 pub mod Theorems
+pub mod TheoremsBlock

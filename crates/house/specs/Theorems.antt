@@ -37,13 +37,13 @@ use Rattle.house.specs.Canonical.{Byte, payloadOf, canonical}
 -- ---- parts of both
 
 -- a section whose words are those of a list
-section-is : (x : List ℕ) (from n : ℕ) (l : List ℕ) → n ≡ length l → ((j : ℕ) → j < n → payloadWord x (from + j) ≡ getD l j 0) → section x from n ≡ l
+pub section-is : (x : List ℕ) (from n : ℕ) (l : List ℕ) → n ≡ length l → ((j : ℕ) → j < n → payloadWord x (from + j) ≡ getD l j 0) → section x from n ≡ l
 section-is x from n l e h =
     let s = list-length (payloadFrom x from) n in
     ext-getD 0 (section x from n) l (omega arith) (λ i g. list-at (payloadFrom x from) n i (omega arith) ∙ h i (omega arith))
 
 -- the first words of a table after a copy are those copied
-copied-first : (from to : List ℕ) (n : ℕ) → length from ≡ n → n ≤ length to → take n (copied from to) ≡ from
+pub copied-first : (from to : List ℕ) (n : ℕ) → length from ≡ n → n ≤ length to → take n (copied from to) ≡ from
 copied-first from to n e h =
     ap (take n) (copied-is from to)
     ∙ (ap (λ (l : List ℕ). take n (l ++ drop (length from) to)) (take-all (length to) from (omega arith)) ∙ take-at from (drop (length from) to) n e)
