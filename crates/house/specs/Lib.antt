@@ -23,3 +23,4 @@ pub mod ReadBack
 pub mod Canonical
 pub mod Theorems
 pub mod TheoremsBlock
+pub mod Kernels
