@@ -4,12 +4,12 @@ use mathlib.Core.List.{List, [], _∷_, _++_}
 use Prim.Native.Nat.{ℕ, zero, suc, _+_, _-_, _*_, _/_, _%_, _≤_, _<_, min}
 use native.Mathlib.Decide.{decLt}
 use native.Mathlib.Omega.{arith}
-use lib.ListN.{length, getD, List·getD-eq-default}
+use lib.ListN.{length, List·getD-eq-default}
 use Rattle.tables.specs.Stores.{Each}
 use Rattle.tables.specs.Lists.{listOf, list-length, list-at, list-same}
-use Rattle.house.specs.Bytes.{wordFrom, wordAt, fourBytes, bytesOf, total, wrappingSum, allOnes}
+use Rattle.house.specs.Bytes.{wordFrom, wordAt, fourBytes, bytesOf, total, wrappingSum}
 use Rattle.house.specs.BytesLaws.{total-append}
-use Rattle.house.specs.Frame.{blockCount, blockWord, kindIn, numberIn, usedIn, payloadIn, payloadLength, payloadWord}
+use Rattle.house.specs.Frame.{blockCount, blockWord, kindIn, usedIn, payloadLength, payloadWord}
 use Rattle.house.specs.Framed.{Sound, Framed}
 use Rattle.house.specs.File.{padded, closed, checkOf, blockWords, share, shareWord, blocksFor, fileWords, fileOf}
 use Rattle.house.specs.Gather.{share-length, share-is}

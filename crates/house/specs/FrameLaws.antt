@@ -1,20 +1,20 @@
 -- The tests of a block and of a frame, each way out from the tests that lead to it; what an accepted frame says. Assumes nothing.
-use mathlib.Core.Path.{_≡_, refl, sym, ap, _∙_}
+use mathlib.Core.Path.{_≡_, sym, ap, _∙_}
 use mathlib.Core.Bool.{Bool, true, false, not, _||_}
 use mathlib.Core.List.{List, []}
 use Prim.Native.Nat.{ℕ, _+_, _-_, _*_, _/_, _%_, _≤_, _<_}
 use native.Mathlib.Omega.{arith}
 use lib.ListN.{length}
 use lib.Dec.{ltb, eqb}
-use borrow.Author.Tests.{lt-ltb, le-ltb, eq-eqb, ne-eqb, ltb-false, eqb-false}
-use Rattle.tables.specs.Tests.{differs, differs-not, or-left, or-right, or-none, neither, same-of}
+use borrow.Author.Tests.{lt-ltb, le-ltb, eq-eqb, ne-eqb}
+use Rattle.tables.specs.Tests.{differs, differs-not, or-left, or-right, or-none}
 use Rattle.tables.specs.Loops.{some, some-stop, some-end}
 use Rattle.answers.specs.Numbers.{Answer, accepted, refused}
 use Rattle.answers.specs.Order.{inOrder}
-use Rattle.answers.specs.OrderLaws.{then-accepted, refuse-accepted, in-order-accepted, refuse-stop, refuse-pass, refuse-on, refuse-off}
+use Rattle.answers.specs.OrderLaws.{refuse-stop, refuse-pass, refuse-on, refuse-off}
 use Rattle.house.specs.Bytes.{wordFrom, wrappingSum, allOnes}
 use Rattle.tables.specs.Lists.{listOf}
-use Rattle.house.specs.Frame.{blockCount, blockWord, kindIn, numberIn, usedIn, payloadIn, wrongCheck, otherKind, wrongKind, wrongUsed, unusedWord, restNotZero, badFrame, blockAnswer, wrongLength, frameAnswer, payloadLength, payloadWord}
+use Rattle.house.specs.Frame.{blockWord, kindIn, numberIn, usedIn, wrongCheck, otherKind, wrongKind, wrongUsed, unusedWord, restNotZero, badFrame, blockAnswer, wrongLength, frameAnswer, payloadLength, payloadWord}
 
 -- a word of a block, by the place of its first byte
 pub block-word-at : (bytes : List ℕ) (b k r : ℕ) → r ≡ wordFrom bytes (512 * b + 4 * k) → r ≡ blockWord bytes b k

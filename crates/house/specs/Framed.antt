@@ -1,17 +1,16 @@
 -- What an accepted frame says of a file, fact by fact. Assumes nothing.
-use mathlib.Core.Path.{_≡_, refl, sym, ap, _∙_}
+use mathlib.Core.Path.{_≡_, refl}
 use mathlib.Core.Bool.{Bool, true, false, cond, not, _||_}
 use mathlib.Core.List.{List}
-use Prim.Native.Nat.{ℕ, _+_, _-_, _*_, _/_, _%_, _≤_, _<_}
+use Prim.Native.Nat.{ℕ, _+_, _-_, _*_, _%_, _≤_, _<_}
 use native.Mathlib.Omega.{arith}
 use lib.ListN.{length}
 use lib.Dec.{ltb, eqb}
-use borrow.Author.Tests.{lt-ltb, le-ltb, ltb-false, eqb-false}
+use borrow.Author.Tests.{ltb-false, eqb-false}
 use Rattle.tables.specs.Tests.{neither, same-of}
 use Rattle.tables.specs.Loops.{some, some-false}
 use Rattle.tables.specs.Lists.{listOf}
-use Rattle.answers.specs.Numbers.{Answer, accepted}
-use Rattle.answers.specs.Order.{inOrder}
+use Rattle.answers.specs.Numbers.{accepted}
 use Rattle.answers.specs.OrderLaws.{then-accepted, refuse-accepted, in-order-accepted}
 use Rattle.house.specs.Bytes.{wrappingSum, allOnes}
 use Rattle.house.specs.Frame.{blockCount, blockWord, kindIn, numberIn, usedIn, payloadIn, wrongCheck, otherKind, wrongKind, wrongUsed, unusedWord, restNotZero, badFrame, blockAnswer, wrongLength, frameAnswer, payloadLength}

@@ -1,10 +1,10 @@
 -- What one block has of a payload, word by word with zeros past its end, is its share with zeros behind it. Assumes nothing.
 use mathlib.Core.Path.{_≡_, refl, sym, ap, _∙_}
-use mathlib.Core.List.{List, [], _∷_, _++_, append-assoc}
+use mathlib.Core.List.{List, _++_}
 use Prim.Native.Nat.{ℕ, zero, suc, _+_, _-_, _*_, _≤_, _<_, min}
 use native.Mathlib.Decide.{decLt}
 use native.Mathlib.Omega.{arith}
-use lib.ListN.{length, getD, take, drop, length-append, length-take, length-drop, List·getD-append, List·getD-eq-default}
+use lib.ListN.{length, getD, drop, length-append, length-take, length-drop, List·getD-append, List·getD-eq-default}
 use lib.Seq.{ext-getD, getD-append-add, getD-take, getD-drop}
 use Rattle.tables.specs.Parts.{part}
 use Rattle.tables.specs.Zeros.{zeros, zeros-length, zeros-at}

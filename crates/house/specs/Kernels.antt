@@ -1,21 +1,18 @@
 -- Document 01, "Small kernels", K: "block A, version 1, category 10, stereo, as a file: used 12, check 0xFFFFFFE6". Assumes nothing.
-use mathlib.Core.Path.{_≡_, refl, sym, ap, _∙_}
-use mathlib.Core.Bool.{false}
+use mathlib.Core.Path.{_≡_, refl, sym}
 use mathlib.Core.List.{List, [], _∷_}
 use Prim.Native.Nat.{ℕ, _≤_}
 use native.Mathlib.Omega.{arith}
 use lib.ListN.{length}
-use Rattle.tables.specs.Loops.{some}
+use Rattle.tables.specs.Loops.{some, sum}
 use Rattle.tables.specs.Parts.{part}
 use Rattle.tables.specs.Zeros.{copied}
 use Rattle.answers.specs.Numbers.{accepted}
-use Rattle.answers.specs.Order.{_⨾_, refuse, inOrder}
+use Rattle.answers.specs.Order.{_⨾_, refuse, refuseAt, inOrder}
 use Rattle.block.specs.Block.{Block, block}
 use Rattle.block.specs.Limits.{codeNeedsTwo, categoryNeedsTwo}
 use Rattle.block.specs.Kinds.{kindOf, nodeLength}
 use Rattle.block.specs.Validation.{malformedNode, malformedHeader, malformed, unknownVersion, networkNotAllowed, networkFlagClear, needsVersionTwo, tooLarge, operandNotBelow, wordsAnswer, nodeAnswer, recordsAnswer, validation}
-use Rattle.tables.specs.Loops.{sum}
-use Rattle.answers.specs.Order.{refuseAt}
 use Rattle.house.specs.Bytes.{total}
 use Rattle.house.specs.Frame.{blockWord, usedIn}
 use Rattle.house.specs.File.{share}

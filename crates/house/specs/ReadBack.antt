@@ -1,14 +1,14 @@
 -- The words of a written file as a reader finds them, and that its frame is accepted. Assumes nothing.
 use mathlib.Core.Path.{_≡_, refl, sym, ap, _∙_}
-use mathlib.Core.Bool.{Bool, true, false, cond, not, _||_}
+use mathlib.Core.Bool.{Bool, false}
 use mathlib.Core.List.{List, [], _∷_, _++_}
 use Prim.Native.Nat.{ℕ, zero, suc, _+_, _-_, _*_, _/_, _%_, _≤_, _<_, min}
 use native.Mathlib.Decide.{decLt}
 use native.Mathlib.Omega.{arith}
-use lib.ListN.{length, getD, length-append, List·getD-eq-default}
+use lib.ListN.{length, getD, List·getD-eq-default}
 use lib.Seq.{ext-getD, getD-append-add}
-use lib.Dec.{ltb, eqb}
-use borrow.Author.Tests.{lt-ltb, le-ltb, ltb-true, ltb-false, eq-eqb, ne-eqb}
+use lib.Dec.{ltb}
+use borrow.Author.Tests.{le-ltb, ltb-true, eq-eqb, ne-eqb}
 use Rattle.tables.specs.Tests.{differs-not, or-none, cond-pred}
 use Rattle.tables.specs.Loops.{some-none}
 use Rattle.tables.specs.Lists.{listOf, list-length, list-at}
@@ -18,7 +18,7 @@ use Rattle.answers.specs.OrderLaws.{then-pass, refuse-pass, refuse-off}
 use Rattle.house.specs.Bytes.{wordFrom, wordAt, fourBytes, bytesOf, total, wrappingSum, allOnes}
 use Rattle.house.specs.BytesLaws.{total-append}
 use Rattle.house.specs.Frame.{blockCount, blockWord, kindIn, numberIn, usedIn, payloadIn, wrongCheck, otherKind, wrongKind, wrongUsed, unusedWord, restNotZero, badFrame, blockAnswer, wrongLength, frameAnswer, payloadLength, payloadWord}
-use Rattle.house.specs.File.{padded, closed, blockWords, share, shareWord, blocksFor, fileWords, fileOf}
+use Rattle.house.specs.File.{padded, closed, blockWords, share, blocksFor, fileWords, fileOf}
 use Rattle.house.specs.Gather.{append-in, append-past, share-length, padded-length, padded-at}
 use Rattle.house.specs.FileLaws.{block-length, words-length, file-length}
 

@@ -1,6 +1,6 @@
 -- The ways out of the two readers, each from the tests that lead to it. Assumes nothing.
-use mathlib.Core.Path.{_≡_, refl, sym, ap, _∙_}
-use mathlib.Core.Bool.{Bool, true, false, not}
+use mathlib.Core.Path.{_≡_, sym, ap, _∙_}
+use mathlib.Core.Bool.{true, false, not}
 use mathlib.Core.List.{List, []}
 use Prim.Native.Nat.{ℕ, _+_, _*_, _≤_, _<_}
 use native.Mathlib.Omega.{arith}
@@ -12,13 +12,12 @@ use Rattle.tables.specs.Zeros.{copied}
 use Rattle.answers.specs.declared.Refusal.{Refusal}
 use Rattle.answers.specs.declared.Verdict.{Verdict}
 use Rattle.answers.specs.declared.Verdict.the-variants.{Valid, Refused}
-use Rattle.answers.specs.Numbers.{Answer, accepted, refused, refusal, answerOf}
+use Rattle.answers.specs.Numbers.{accepted, refused, refusal, answerOf}
 use Rattle.answers.specs.OrderLaws.{then-stop, then-pass, refuse-stop, refuse-pass}
 use Rattle.house.specs.declared.Contents.{Contents}
 use Rattle.house.specs.declared.Engine.{Engine}
-use Rattle.house.specs.declared.Rendering.{Rendering}
 use Rattle.house.specs.Frame.{effectKind, graphKind, stepKind, blockCount, kindIn, frameAnswer, payloadLength, section}
-use Rattle.house.specs.Framed.{Framed, framed, payload-room}
+use Rattle.house.specs.Framed.{framed, payload-room}
 use Rattle.house.specs.Payload.{contentsIn, parametersAt, statesAt, delaysAt, nodesAt, contentsEnd, engineOf, renderingIn, samplesAt}
 use Rattle.house.specs.Read.{Tables, tables, tablesShort, readBlockAnswer, readTables, blockOutcome, readBlockCall, readRenderingAnswer, readSamples, renderingOutcome, readRenderingCall}
 

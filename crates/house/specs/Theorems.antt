@@ -1,10 +1,10 @@
 -- Document 01, "House file": "Reading back gives the same tables, and no other bytes do"; a file of one kind never reads as another. Assumes nothing.
 use mathlib.Core.Path.{_≡_, refl, sym, ap, _∙_}
-use mathlib.Core.Bool.{Bool, true, false, not}
-use mathlib.Core.List.{List, [], _∷_, _++_, append-assoc}
-use Prim.Native.Nat.{ℕ, suc, _+_, _-_, _*_, _/_, _%_, _≤_, _<_}
+use mathlib.Core.Bool.{Bool, true, false}
+use mathlib.Core.List.{List, _∷_, _++_}
+use Prim.Native.Nat.{ℕ, suc, _+_, _≤_, _<_}
 use native.Mathlib.Omega.{arith}
-use lib.ListN.{length, getD, take, drop, length-append}
+use lib.ListN.{length, getD, take, drop}
 use lib.Seq.{ext-getD, take-at, take-all}
 use lib.Dec.{ltb, eqb}
 use borrow.Author.Tests.{ltb-false, eqb-true, eqb-false}
@@ -12,25 +12,20 @@ use Rattle.tables.specs.Tests.{neither, same-of}
 use Rattle.tables.specs.Stores.{Each}
 use Rattle.tables.specs.Zeros.{copied, copied-is}
 use Rattle.tables.specs.Lists.{listOf, list-length, list-at}
-use Rattle.answers.specs.Numbers.{Answer, accepted}
+use Rattle.answers.specs.Numbers.{accepted}
 use Rattle.answers.specs.OrderLaws.{then-accepted, refuse-accepted}
-use Rattle.block.specs.Block.{Block}
-use Rattle.block.specs.Validation.{validation}
-use Rattle.block.specs.Valid.{valid}
-use Rattle.house.specs.declared.Contents.{Contents}
 use Rattle.house.specs.declared.Engine.{Engine}
 use Rattle.house.specs.declared.Engine.the-variants.{Graph, Steps}
 use Rattle.house.specs.declared.Rendering.{Rendering}
-use Rattle.house.specs.Frame.{effectKind, graphKind, stepKind, blockCount, kindIn, frameAnswer, payloadLength, payloadWord, payloadFrom, section}
+use Rattle.house.specs.Frame.{graphKind, stepKind, kindIn, payloadLength, payloadWord, payloadFrom, section}
 use Rattle.house.specs.Framed.{Framed, framed}
-use Rattle.house.specs.File.{blocksFor, fileOf, fileLength}
+use Rattle.house.specs.File.{fileOf}
 use Rattle.house.specs.FileLaws.{file-length}
-use Rattle.house.specs.Payload.{contentsIn, parametersAt, statesAt, delaysAt, nodesAt, contentsEnd, contentsOf, headWords, effectPayload, blockPayload, blockFile, kindOf, engineOf, renderingIn, samplesAt, renderingPayload, renderingFile}
+use Rattle.house.specs.Payload.{kindOf, engineOf, renderingIn, samplesAt, renderingPayload, renderingFile}
 use Rattle.house.specs.PayloadLaws.{list-add}
-use Rattle.house.specs.Read.{Tables, tables, tablesShort, readBlockAnswer, readTables, BlockOutcome, blockOutcome, readBlockCall, readRenderingAnswer, readSamples, RenderingOutcome, renderingOutcome, readRenderingCall}
-use Rattle.house.specs.ReadLaws.{rendering-done, block-done, Room, tables-room}
-use Rattle.house.specs.Write.{writtenBytes, Outcome, outcome, blockBytes, writeBlockAnswer, writeBlockCall, mostSamples, renderingBytes, writeRenderingAnswer, writeRenderingCall}
-use Rattle.house.specs.Gather.{word-head, word-parameter, word-state, word-delay, word-node}
+use Rattle.house.specs.Read.{readRenderingAnswer, readSamples, RenderingOutcome, renderingOutcome, readRenderingCall}
+use Rattle.house.specs.ReadLaws.{rendering-done}
+use Rattle.house.specs.Write.{writtenBytes, mostSamples, renderingBytes, writeRenderingAnswer, writeRenderingCall}
 use Rattle.house.specs.ReadBack.{kind-is, frame-accepted, payload-length-is, payload-word-is}
 use Rattle.house.specs.Canonical.{Byte, payloadOf, canonical}
 
@@ -71,7 +66,7 @@ read-back-rendering e s t h =
     let x = renderingFile e s in
     let l = payload-length-is (kindOf e) (renderingPayload s) (omega arith) in
     let v = section-is (renderingFile e s) 1 (length s) s refl
-        (λ j g. let z : 1 + j ≡ suc j = omega arith in payload-word-is (kindOf e) (renderingPayload s) (1 + j) (omega arith) ∙ rw z) in
+    (λ j g. let z : 1 + j ≡ suc j = omega arith in payload-word-is (kindOf e) (renderingPayload s) (1 + j) (omega arith) ∙ rw z) in
     sym
     (rendering-done (renderingFile e s) t (frame-accepted graphKind stepKind (kindOf e) (renderingPayload s) (k .0) (k .1) (omega arith)) (length s) (suc (length s))
     (sym (payload-word-is (kindOf e) (renderingPayload s) 0 (omega arith))) (sym l) (omega arith) {k = kindOf e} h (ap (λ (y : List ℕ). copied y t) (sym v))

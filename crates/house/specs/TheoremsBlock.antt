@@ -1,17 +1,16 @@
 -- Document 01, "House file": "Reading back gives the same tables, and no other bytes do", of an effect block. Assumes nothing.
 use mathlib.Core.Path.{_≡_, refl, sym, ap, _∙_}
-use mathlib.Core.Bool.{Bool, true, false, not}
-use mathlib.Core.List.{List, [], _∷_, _++_, append-assoc}
-use Prim.Native.Nat.{ℕ, suc, _+_, _-_, _*_, _/_, _%_, _≤_, _<_}
+use mathlib.Core.Bool.{false}
+use mathlib.Core.List.{List, _++_, append-assoc}
+use Prim.Native.Nat.{ℕ, _+_, _-_, _*_, _<_}
 use native.Mathlib.Omega.{arith}
-use lib.ListN.{length, getD, take, length-append}
-use lib.Dec.{ltb, eqb}
+use lib.ListN.{length, getD, take}
 use borrow.Author.Tests.{ltb-false}
 use Rattle.tables.specs.Tests.{same-of}
 use Rattle.tables.specs.Stores.{Each}
 use Rattle.tables.specs.Zeros.{copied}
 use Rattle.tables.specs.Lists.{listOf, list-length}
-use Rattle.answers.specs.Numbers.{Answer, accepted}
+use Rattle.answers.specs.Numbers.{accepted}
 use Rattle.answers.specs.OrderLaws.{then-accepted, refuse-accepted}
 use Rattle.block.specs.Block.{Block, parameterCount, stateCount, delayCount, nodeCount}
 use Rattle.block.specs.Validation.{validation}
@@ -26,9 +25,9 @@ use Rattle.house.specs.Payload.{contentsIn, parametersAt, statesAt, dela
 use Rattle.house.specs.PayloadLaws.{list-add}
 use Rattle.house.specs.Read.{Tables, tables, tablesShort, readBlockAnswer, readTables, BlockOutcome, blockOutcome, readBlockCall}
 use Rattle.house.specs.ReadLaws.{block-done, Room, tables-room, tables-read}
-use Rattle.house.specs.Write.{writtenBytes, Outcome, blockBytes, writeBlockAnswer, writeBlockCall}
+use Rattle.house.specs.Write.{writtenBytes, blockBytes, writeBlockAnswer, writeBlockCall}
 use Rattle.house.specs.WriteLaws.{payload-count}
-use Rattle.house.specs.Gather.{word-head, word-parameter, word-state, word-delay, word-node}
+use Rattle.house.specs.Gather.{word-parameter, word-state, word-delay, word-node}
 use Rattle.house.specs.ReadBack.{frame-accepted, payload-length-is, payload-word-is}
 use Rattle.house.specs.Canonical.{Byte, payloadOf, canonical}
 use Rattle.house.specs.Theorems.{section-is, copied-first}
@@ -44,16 +43,17 @@ module _ (b : Block) (v : Valids.Valid b) where
   contents-is : contentsIn (blockFile b) ≡ contentsOf b
   contents-is =
       let n = length-is in
-      rw
-      (word-is 0 (omega arith),
-      word-is 1 (omega arith),
-      word-is 2 (omega arith),
-      word-is 3 (omega arith),
-      word-is 4 (omega arith),
-      word-is 5 (omega arith),
-      word-is 6 (omega arith),
-      word-is 7 (omega arith),
-      word-is 8 (omega arith))
+      rw (
+        word-is 0 (omega arith),
+        word-is 1 (omega arith),
+        word-is 2 (omega arith),
+        word-is 3 (omega arith),
+        word-is 4 (omega arith),
+        word-is 5 (omega arith),
+        word-is 6 (omega arith),
+        word-is 7 (omega arith),
+        word-is 8 (omega arith),
+      )
 
   parameters-are : section (blockFile b) parametersAt (3 * parameterCount b) ≡ b .parameters
   parameters-are =

@@ -1,8 +1,7 @@
 -- The ways out of the two writers, each from the tests that lead to it. Assumes nothing.
-use mathlib.Core.Path.{_≡_, refl, sym, ap, _∙_}
-use mathlib.Core.Bool.{Bool, true, false, _||_}
-use mathlib.Core.List.{List, [], _++_}
-use Prim.Native.Nat.{ℕ, suc, _+_, _*_, _/_, _≤_, _<_}
+use mathlib.Core.Path.{_≡_, sym, ap, _∙_}
+use mathlib.Core.List.{List, []}
+use Prim.Native.Nat.{ℕ, _+_, _*_, _≤_, _<_}
 use native.Mathlib.Omega.{arith}
 use lib.ListN.{length, length-append}
 use lib.Dec.{ltb}
@@ -12,17 +11,16 @@ use Rattle.tables.specs.Zeros.{copied}
 use Rattle.answers.specs.declared.Refusal.{Refusal}
 use Rattle.answers.specs.declared.Verdict.{Verdict}
 use Rattle.answers.specs.declared.Verdict.the-variants.{Valid, Refused}
-use Rattle.answers.specs.Numbers.{Answer, accepted, refused, refusal, answerOf}
+use Rattle.answers.specs.Numbers.{accepted, refused, refusal, answerOf}
 use Rattle.answers.specs.OrderLaws.{then-stop, then-pass, refuse-stop, refuse-pass}
 use Rattle.block.specs.Block.{Block}
 use Rattle.block.specs.Validation.{validation}
-use Rattle.block.specs.Valid as Valids
 use Rattle.block.specs.Valid.{valid, node-limit}
 use Rattle.house.specs.declared.Contents.{Contents}
 use Rattle.house.specs.declared.Engine.{Engine}
 use Rattle.house.specs.Frame.{effectKind}
 use Rattle.house.specs.File.{blocksFor, fileOf, fileLength}
-use Rattle.house.specs.Payload.{contentsOf, effectPayload, blockPayload, blockFile, kindOf, renderingPayload, renderingFile}
+use Rattle.house.specs.Payload.{contentsOf, effectPayload, kindOf, renderingPayload}
 use Rattle.house.specs.Write.{writtenBytes, outcome, blockBytes, writeBlockAnswer, writeBlockCall, mostSamples, renderingBytes, writeRenderingAnswer, writeRenderingCall}
 
 -- ---- a rendering

@@ -3,7 +3,6 @@ use crate::words;
 use answers::Refusal;
 use answers::Verdict;
 ghost use mathlib.Core.Path.{_≡_};
-ghost use mathlib.Core.Bool.{_||_};
 ghost use Prim.Native.Nat.{_+_, _*_, _≤_};
 ghost use lib.ListN.{length};
 ghost use Rattle.tables.specs.Lists.{listOf};

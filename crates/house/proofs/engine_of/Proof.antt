@@ -1,16 +1,11 @@
 -- `engine_of` tells the two kinds of rendering apart. Assumes nothing.
 use borrow.Author.Tests.{eq-eqb, ne-eqb}
-use borrow.Author.Needs.{needs}
 use Rattle.house.proofs.engine_of.Statement.{statement}
 use Rattle.house.proofs.engine_of.Tie as tie
-use Rattle.house.proofs.engine_of.Reads as reads
-use Rattle.house.proofs.engine_of.Lts as lts
 
--- src/lib.rt:63:9
 returns : tie.Need-returns
 returns c = rw (eq-eqb _ _ (c .if1 .taken))
 
--- src/lib.rt:59:1
 returns-2 : tie.Need-returns-2
 returns-2 c = rw (ne-eqb _ _ (c .if1 .left))
 

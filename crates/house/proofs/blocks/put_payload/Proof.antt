@@ -1,6 +1,6 @@
 -- `put_payload`: before turn i the bytes of the first i words stand from `at` on. Assumes nothing.
-use mathlib.Core.Path.{_≡_, refl, sym, ap, _∙_}
-use Prim.Native.Nat.{_+_, _*_, _-_, _≤_}
+use mathlib.Core.Path.{_≡_, refl, ap, _∙_}
+use Prim.Native.Nat.{_-_, _≤_}
 use native.Mathlib.Omega.{arith}
 use lib.ListN.{length, take}
 use lib.Seq.{sets, length-sets, take-length}
@@ -9,9 +9,6 @@ use Rattle.house.specs.BytesLaws.{put-start, put-next}
 use borrow.Author.Needs.{needs}
 use Rattle.house.proofs.blocks.put_payload.Statement.{statement}
 use Rattle.house.proofs.blocks.put_payload.Tie as tie
-use Rattle.house.proofs.blocks.put_payload.Reads as reads
-use Rattle.house.proofs.blocks.put_payload.Lts as lts
-use Rattle.house.proofs.words.put.Reads as put-reads
 
 abbrev Inv-loop : tie.InvT-loop
 Inv-loop bytes₀ at payload i₀ bytes i = (i ≤ 124) × ((length payload ≡ 124) × ((length bytes ≡ length bytes₀) × (bytes ≡ sets bytes₀ at (bytesOf (take i payload)))))
@@ -19,49 +16,20 @@ Inv-loop bytes₀ at payload i₀ bytes i = (i ≤ 124) × ((length payload ≡ 
 abbrev μ-loop : tie.MeasureT-loop
 μ-loop bytes₀ at payload i₀ bytes i = 124 - i
 
--- src/blocks.rt:30:5
 loop-holds : tie.Need-loop-holds Inv-loop μ-loop
 loop-holds c = (omega arith, (search needs, (refl, put-start (c .before .args .t3) _ _)))
 
--- src/blocks.rt:31:32
-mul-put : tie.Need-mul-put Inv-loop μ-loop
-mul-put c = search needs
-
--- src/blocks.rt:31:27
-add-put : tie.Need-add-put Inv-loop μ-loop
-add-put c = search needs
-
--- src/blocks.rt:31:39
-mul-put-2 : tie.Need-mul-put-2 Inv-loop μ-loop
-mul-put-2 c = search needs
-
--- src/blocks.rt:31:39
-array-read-put : tie.Need-array-read-put Inv-loop μ-loop
-array-read-put c = search needs
-
--- src/blocks.rt:31:9
 put-requires : tie.Need-put-requires Inv-loop μ-loop
 put-requires c κs = let v = c .before .before .loop .inv in omega arith
 
--- src/blocks.rt:32:9
-add-i : tie.Need-add-i Inv-loop μ-loop
-add-i c = search needs
-
--- src/blocks.rt:30:5
-loop-less : tie.Need-loop-less Inv-loop μ-loop
-loop-less c = search needs
-
--- src/blocks.rt:30:5
 loop-again : tie.Need-loop-again Inv-loop μ-loop
 loop-again c =
     let v = c .before .before .before .before .before .loop .inv in
     (omega arith, (v .1 .0, (ap length (c .before .before .put .ensures) ∙ simp length-sets (v .1 .1 .0), put-next (c .before .before .before .before .before .before .before .args .t3) _ _ _ _ (c .before .before .before .before .before .loop .i) _ (omega arith) (v .1 .1 .1) refl (c .before .before .put .ensures))))
 
--- src/blocks.rt:25:1
 same-length : tie.Need-same-length Inv-loop μ-loop
 same-length c = c .before .loop .inv .1 .1 .0
 
--- src/blocks.rt:25:1
 returns : tie.Need-returns Inv-loop μ-loop
 returns c = let z : c .before .loop .i ≡ length (c .before .before .before .args .t3) = omega (arith, c .before .loop .inv .1 .0) in c .before .loop .inv .1 .1 .1 ∙ rw (z, take-length)
 
@@ -72,13 +40,13 @@ put-payload-spec =
     Inv-loop
     μ-loop
     loop-holds
-    mul-put
-    add-put
-    mul-put-2
-    array-read-put
+    (λ c. search needs)
+    (λ c. search needs)
+    (λ c. search needs)
+    (λ c. search needs)
     put-requires
-    add-i
-    loop-less
+    (λ c. search needs)
+    (λ c. search needs)
     loop-again
     same-length
     returns)

@@ -1,9 +1,4 @@
 -- `block_word` reads the word at its place. Assumes nothing.
-use mathlib.Core.Path.{_≡_, refl, sym, ap, _∙_}
-use mathlib.Core.Bool.{true, false}
-use Prim.Native.Nat.{_+_, _*_, _-_, _≤_}
-use native.Mathlib.Omega.{arith}
-use lib.ListN.{length}
 use borrow.Author.Needs.{needs}
 use Rattle.house.specs.FrameLaws.{block-word-at}
 use Rattle.house.proofs.frame.block_word.Statement.{statement}

@@ -1,8 +1,7 @@
 -- `judge`: before turn `number` every block below it is accepted. Assumes nothing.
-use mathlib.Core.Path.{_≡_, refl, sym, ap, _∙_}
-use Prim.Native.Nat.{_+_, _*_, _-_, _≤_}
+use mathlib.Core.Path.{_≡_, sym, ap, _∙_}
+use Prim.Native.Nat.{_-_, _≤_}
 use native.Mathlib.Omega.{arith}
-use lib.ListN.{length}
 use Rattle.answers.specs.Numbers.{accepted, answerOf}
 use Rattle.answers.specs.Order.{inOrder}
 use Rattle.answers.specs.OrderLaws.{in-order-start, in-order-next, in-order-hand-on, in-order-end}
@@ -11,9 +10,6 @@ use Rattle.house.specs.FrameLaws.{frame-empty, frame-ragged, frame-block
 use borrow.Author.Needs.{needs}
 use Rattle.house.proofs.frame.judge.Statement.{statement}
 use Rattle.house.proofs.frame.judge.Tie as tie
-use Rattle.house.proofs.frame.judge.Reads as reads
-use Rattle.house.proofs.frame.judge.Lts as lts
-use Rattle.house.proofs.frame.judge_block.Reads as judge-block-reads
 
 abbrev Inv-loop : tie.InvT-loop
 Inv-loop bytes low high count number₀ number = (number ≤ count) × (inOrder (blockAnswer low high bytes) number ≡ accepted tt)
@@ -21,46 +17,21 @@ Inv-loop bytes low high count number₀ number = (number ≤ count) × (inOrder 
 abbrev μ-loop : tie.MeasureT-loop
 μ-loop bytes low high count number₀ number = count - number
 
--- src/frame.rt:122:9
 returns : tie.Need-returns Inv-loop μ-loop
 returns c = frame-empty _ _ _ (c .if1 .taken)
 
--- src/frame.rt:125:9
 returns-2 : tie.Need-returns-2 Inv-loop μ-loop
 returns-2 c = frame-ragged _ _ _ (c .if2 .taken)
 
--- src/frame.rt:129:5
 loop-holds : tie.Need-loop-holds Inv-loop μ-loop
 loop-holds c = (omega arith, in-order-start _)
 
--- src/frame.rt:130:13
-judge-block-requires : tie.Need-judge-block-requires Inv-loop μ-loop
-judge-block-requires c κs = search needs
-
-enum-told : tie.Need-enum-told Inv-loop μ-loop
-enum-told c = search needs
-
--- src/frame.rt:132:13
-enum-told-2 : tie.Need-enum-told-2 Inv-loop μ-loop
-enum-told-2 c = search needs
-
--- src/frame.rt:132:13
 returns-3 : tie.Need-returns-3 Inv-loop μ-loop
 returns-3 c = frame-blocks _ _ _ (c .before .before .before .before .before .before .if1 .left) (c .before .before .before .before .before .if2 .left) (in-order-hand-on _ _ (c .before .before .before .before .loop .number) _ (c .before .before .before .loop-test .taken) (c .before .before .before .before .loop .inv .1) (c .before .before .judge-block .ensures) (c .enum-told2 .given .1))
 
--- src/frame.rt:134:9
-add-number : tie.Need-add-number Inv-loop μ-loop
-add-number c = search needs
-
--- src/frame.rt:129:5
-loop-less : tie.Need-loop-less Inv-loop μ-loop
-loop-less c = search needs
-
--- src/frame.rt:129:5
 loop-again : tie.Need-loop-again Inv-loop μ-loop
 loop-again c = (omega arith, in-order-next _ (c .before .before .before .before .loop .number) (c .before .before .before .before .loop .inv .1) (sym (c .before .before .judge-block .ensures) ∙ ap answerOf (c .enum-told .given .1)))
 
--- src/frame.rt:118:1
 returns-4 : tie.Need-returns-4 Inv-loop μ-loop
 returns-4 c = frame-blocks _ _ _ (c .before .before .before .if1 .left) (c .before .before .if2 .left) (sym (in-order-end _ (c .before .loop .number) _ (c .before .loop .inv .0) (c .loop-test .left) (c .before .loop .inv .1)))
 
@@ -73,11 +44,11 @@ judge-spec =
     returns
     returns-2
     loop-holds
-    judge-block-requires
-    enum-told
-    enum-told-2
+    (λ c κs. search needs)
+    (λ c. search needs)
+    (λ c. search needs)
     returns-3
-    add-number
-    loop-less
+    (λ c. search needs)
+    (λ c. search needs)
     loop-again
     returns-4)

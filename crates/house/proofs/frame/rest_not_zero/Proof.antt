@@ -1,12 +1,11 @@
 -- `rest_not_zero`: before turn i no word of the first i past the used ones is other than 0. Assumes nothing.
-use mathlib.Core.Path.{_≡_, refl, sym, ap, _∙_}
-use mathlib.Core.Bool.{true, false}
-use Prim.Native.Nat.{_+_, _*_, _-_, _≤_}
+use mathlib.Core.Path.{_≡_}
+use mathlib.Core.Bool.{false}
+use Prim.Native.Nat.{_-_, _≤_}
 use native.Mathlib.Omega.{arith}
-use lib.ListN.{length}
 use borrow.Author.Needs.{needs}
 use Rattle.tables.specs.Loops.{some, some-start, some-next}
-use Rattle.house.specs.Frame.{usedIn, unusedWord}
+use Rattle.house.specs.Frame.{unusedWord}
 use Rattle.house.specs.FrameLaws.{rest-none, rest-found, rest-next, rest-clear}
 use Rattle.house.proofs.frame.rest_not_zero.Statement.{statement}
 use Rattle.house.proofs.frame.rest_not_zero.Tie as tie

@@ -1,9 +1,4 @@
 -- `wrong_kind` tests the kind against its bounds, then against the first kind. Assumes nothing.
-use mathlib.Core.Path.{_≡_, refl, sym, ap, _∙_}
-use mathlib.Core.Bool.{true, false}
-use Prim.Native.Nat.{_+_, _*_, _-_, _≤_}
-use native.Mathlib.Omega.{arith}
-use lib.ListN.{length}
 use borrow.Author.Needs.{needs}
 use Rattle.house.specs.FrameLaws.{kind-low, kind-high, kind-first}
 use Rattle.house.proofs.frame.wrong_kind.Statement.{statement}

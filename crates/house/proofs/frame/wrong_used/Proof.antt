@@ -1,9 +1,4 @@
 -- `wrong_used` tests an inner block for 124 and the last for 1 to 124. Assumes nothing.
-use mathlib.Core.Path.{_≡_, refl, sym, ap, _∙_}
-use mathlib.Core.Bool.{true, false}
-use Prim.Native.Nat.{_+_, _*_, _-_, _≤_}
-use native.Mathlib.Omega.{arith}
-use lib.ListN.{length}
 use borrow.Author.Needs.{needs}
 use Rattle.house.specs.FrameLaws.{used-inner, used-none, used-last}
 use Rattle.house.proofs.frame.wrong_used.Statement.{statement}

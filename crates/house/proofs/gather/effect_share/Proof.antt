@@ -1,6 +1,6 @@
 -- `effect_share`: before turn i the first i words are stored. Assumes nothing.
-use mathlib.Core.Path.{_≡_, refl, sym, ap, _∙_}
-use Prim.Native.Nat.{_+_, _*_, _-_, _≤_}
+use mathlib.Core.Path.{_≡_, refl, ap, _∙_}
+use Prim.Native.Nat.{_-_, _≤_}
 use native.Mathlib.Omega.{arith}
 use lib.ListN.{length}
 use Rattle.tables.specs.Lists.{listOf, filled, filled-start, filled-next, filled-last}
@@ -9,9 +9,6 @@ use Rattle.house.specs.Payload.{effectPayload}
 use borrow.Author.Needs.{needs}
 use Rattle.house.proofs.gather.effect_share.Statement.{statement}
 use Rattle.house.proofs.gather.effect_share.Tie as tie
-use Rattle.house.proofs.gather.effect_share.Reads as reads
-use Rattle.house.proofs.gather.effect_share.Lts as lts
-use Rattle.house.proofs.gather.effect_word.Reads as effect-word-reads
 
 abbrev Inv-loop : tie.InvT-loop
 Inv-loop contents parameters states delays nodes from words₀ i₀ words i = (i ≤ 124) × ((length words₀ ≡ 124) × (words ≡ filled (shareWord (effectPayload contents parameters states delays nodes) from) i words₀))
@@ -19,41 +16,14 @@ Inv-loop contents parameters states delays nodes from words₀ i₀ words i = (i
 abbrev μ-loop : tie.MeasureT-loop
 μ-loop contents parameters states delays nodes from words₀ i₀ words i = 124 - i
 
--- src/gather.rt:146:5
 loop-holds : tie.Need-loop-holds Inv-loop μ-loop
 loop-holds c = (omega arith, (refl, filled-start (shareWord (effectPayload (c .before .before .before .before .args .contents) (c .before .before .before .before .args .parameters .now) (c .before .before .before .before .args .states .now) (c .before .before .before .before .args .delays .now) (c .before .before .before .before .args .nodes .now)) (c .before .before .before .before .args .from)) _))
 
--- src/gather.rt:147:77
-add-effect-word : tie.Need-add-effect-word Inv-loop μ-loop
-add-effect-word c = search needs
-
--- src/gather.rt:147:20
-effect-word-requires : tie.Need-effect-word-requires Inv-loop μ-loop
-effect-word-requires c κs = search needs
-
--- src/gather.rt:147:9
-mul-words : tie.Need-mul-words Inv-loop μ-loop
-mul-words c = search needs
-
--- src/gather.rt:147:9
-array-write-words : tie.Need-array-write-words Inv-loop μ-loop
-array-write-words c = search needs
-
--- src/gather.rt:148:9
-add-i : tie.Need-add-i Inv-loop μ-loop
-add-i c = search needs
-
--- src/gather.rt:146:5
-loop-less : tie.Need-loop-less Inv-loop μ-loop
-loop-less c = search needs
-
--- src/gather.rt:146:5
 loop-again : tie.Need-loop-again Inv-loop μ-loop
 loop-again c =
     let v = c .before .before .loop .inv in
     (omega arith, (v .1 .0, rw (c .effect-word .ensures) (filled-next (shareWord (effectPayload (c .before .before .before .before .before .before .before .args .contents) (c .before .before .before .before .before .before .before .args .parameters .now) (c .before .before .before .before .before .before .before .args .states .now) (c .before .before .before .before .before .before .before .args .delays .now) (c .before .before .before .before .before .before .before .args .nodes .now)) (c .before .before .before .before .before .before .before .args .from)) (c .before .before .loop .i) _ _ (omega arith) (v .1 .1))))
 
--- src/gather.rt:133:1
 returns : tie.Need-returns Inv-loop μ-loop
 returns c = let v = c .before .loop .inv in filled-last (shareWord (effectPayload (c .before .before .before .before .before .before .args .contents) (c .before .before .before .before .before .before .args .parameters .now) (c .before .before .before .before .before .before .args .states .now) (c .before .before .before .before .before .before .args .delays .now) (c .before .before .before .before .before .before .args .nodes .now)) (c .before .before .before .before .before .before .args .from)) (c .before .loop .i) _ _ (omega arith) (v .1 .1) ∙ ap (listOf (shareWord (effectPayload (c .before .before .before .before .before .before .args .contents) (c .before .before .before .before .before .before .args .parameters .now) (c .before .before .before .before .before .before .args .states .now) (c .before .before .before .before .before .before .args .delays .now) (c .before .before .before .before .before .before .args .nodes .now)) (c .before .before .before .before .before .before .args .from))) (v .1 .0)
 
@@ -64,11 +34,11 @@ effect-share-spec =
     Inv-loop
     μ-loop
     loop-holds
-    add-effect-word
-    effect-word-requires
-    mul-words
-    array-write-words
-    add-i
-    loop-less
+    (λ c. search needs)
+    (λ c κs. search needs)
+    (λ c. search needs)
+    (λ c. search needs)
+    (λ c. search needs)
+    (λ c. search needs)
     loop-again
     returns)

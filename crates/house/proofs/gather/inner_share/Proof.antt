@@ -1,6 +1,6 @@
 -- `inner_share`: before turn i the first i words are stored. Assumes nothing.
-use mathlib.Core.Path.{_≡_, refl, sym, ap, _∙_}
-use Prim.Native.Nat.{_+_, _*_, _-_, _≤_}
+use mathlib.Core.Path.{_≡_, refl, ap, _∙_}
+use Prim.Native.Nat.{_-_, _≤_}
 use native.Mathlib.Omega.{arith}
 use lib.ListN.{length}
 use Rattle.tables.specs.Lists.{listOf, filled, filled-start, filled-next, filled-last}
@@ -8,8 +8,6 @@ use Rattle.house.specs.File.{shareWord}
 use borrow.Author.Needs.{needs}
 use Rattle.house.proofs.gather.inner_share.Statement.{statement}
 use Rattle.house.proofs.gather.inner_share.Tie as tie
-use Rattle.house.proofs.gather.inner_share.Reads as reads
-use Rattle.house.proofs.gather.inner_share.Lts as lts
 
 abbrev Inv-loop : tie.InvT-loop
 Inv-loop samples from words₀ i₀ words i = (i ≤ 124) × ((length words₀ ≡ 124) × (words ≡ filled (shareWord samples from) i words₀))
@@ -17,45 +15,14 @@ Inv-loop samples from words₀ i₀ words i = (i ≤ 124) × ((length words₀ �
 abbrev μ-loop : tie.MeasureT-loop
 μ-loop samples from words₀ i₀ words i = 124 - i
 
--- src/gather.rt:31:5
 loop-holds : tie.Need-loop-holds Inv-loop μ-loop
 loop-holds c = (omega arith, (refl, filled-start (shareWord (c .args .samples .now) (c .args .from)) _))
 
--- src/gather.rt:32:28
-add-words : tie.Need-add-words Inv-loop μ-loop
-add-words c = search needs
-
--- src/gather.rt:32:20
-mul-words : tie.Need-mul-words Inv-loop μ-loop
-mul-words c = search needs
-
--- src/gather.rt:32:20
-shared-slice-read-words : tie.Need-shared-slice-read-words Inv-loop μ-loop
-shared-slice-read-words c = search needs
-
--- src/gather.rt:32:9
-mul-words-2 : tie.Need-mul-words-2 Inv-loop μ-loop
-mul-words-2 c = search needs
-
--- src/gather.rt:32:9
-array-write-words : tie.Need-array-write-words Inv-loop μ-loop
-array-write-words c = search needs
-
--- src/gather.rt:33:9
-add-i : tie.Need-add-i Inv-loop μ-loop
-add-i c = search needs
-
--- src/gather.rt:31:5
-loop-less : tie.Need-loop-less Inv-loop μ-loop
-loop-less c = search needs
-
--- src/gather.rt:31:5
 loop-again : tie.Need-loop-again Inv-loop μ-loop
 loop-again c =
     let v = c .before .before .loop .inv in
     (omega arith, (v .1 .0, filled-next (shareWord (c .before .before .before .args .samples .now) (c .before .before .before .args .from)) (c .before .before .loop .i) _ _ (omega arith) (v .1 .1)))
 
--- src/gather.rt:25:1
 returns : tie.Need-returns Inv-loop μ-loop
 returns c = let v = c .before .loop .inv in filled-last (shareWord (c .before .before .args .samples .now) (c .before .before .args .from)) (c .before .loop .i) _ _ (omega arith) (v .1 .1) ∙ ap (listOf (shareWord (c .before .before .args .samples .now) (c .before .before .args .from))) (v .1 .0)
 
@@ -66,12 +33,12 @@ inner-share-spec =
     Inv-loop
     μ-loop
     loop-holds
-    add-words
-    mul-words
-    shared-slice-read-words
-    mul-words-2
-    array-write-words
-    add-i
-    loop-less
+    (λ c. search needs)
+    (λ c. search needs)
+    (λ c. search needs)
+    (λ c. search needs)
+    (λ c. search needs)
+    (λ c. search needs)
+    (λ c. search needs)
     loop-again
     returns)

@@ -1,6 +1,6 @@
 -- `outer_share`: before turn i the first i words are stored. Assumes nothing.
-use mathlib.Core.Path.{_≡_, refl, sym, ap, _∙_}
-use Prim.Native.Nat.{_+_, _*_, _-_, _≤_}
+use mathlib.Core.Path.{_≡_, refl, ap, _∙_}
+use Prim.Native.Nat.{_-_, _≤_}
 use native.Mathlib.Omega.{arith}
 use lib.ListN.{length}
 use Rattle.tables.specs.Lists.{listOf, filled, filled-start, filled-next, filled-last}
@@ -9,9 +9,6 @@ use Rattle.house.specs.Payload.{renderingPayload}
 use borrow.Author.Needs.{needs}
 use Rattle.house.proofs.gather.outer_share.Statement.{statement}
 use Rattle.house.proofs.gather.outer_share.Tie as tie
-use Rattle.house.proofs.gather.outer_share.Reads as reads
-use Rattle.house.proofs.gather.outer_share.Lts as lts
-use Rattle.house.proofs.gather.rendering_word.Reads as rendering-word-reads
 
 abbrev Inv-loop : tie.InvT-loop
 Inv-loop samples count from words₀ i₀ words i = (i ≤ 124) × ((length words₀ ≡ 124) × (words ≡ filled (shareWord (renderingPayload samples) from) i words₀))
@@ -19,41 +16,14 @@ Inv-loop samples count from words₀ i₀ words i = (i ≤ 124) × ((length word
 abbrev μ-loop : tie.MeasureT-loop
 μ-loop samples count from words₀ i₀ words i = 124 - i
 
--- src/gather.rt:45:5
 loop-holds : tie.Need-loop-holds Inv-loop μ-loop
 loop-holds c = (omega arith, (refl, filled-start (shareWord (renderingPayload (c .before .args .samples .now)) (c .before .args .from)) _))
 
--- src/gather.rt:46:51
-add-rendering-word : tie.Need-add-rendering-word Inv-loop μ-loop
-add-rendering-word c = search needs
-
--- src/gather.rt:46:20
-rendering-word-requires : tie.Need-rendering-word-requires Inv-loop μ-loop
-rendering-word-requires c κs = search needs
-
--- src/gather.rt:46:9
-mul-words : tie.Need-mul-words Inv-loop μ-loop
-mul-words c = search needs
-
--- src/gather.rt:46:9
-array-write-words : tie.Need-array-write-words Inv-loop μ-loop
-array-write-words c = search needs
-
--- src/gather.rt:47:9
-add-i : tie.Need-add-i Inv-loop μ-loop
-add-i c = search needs
-
--- src/gather.rt:45:5
-loop-less : tie.Need-loop-less Inv-loop μ-loop
-loop-less c = search needs
-
--- src/gather.rt:45:5
 loop-again : tie.Need-loop-again Inv-loop μ-loop
 loop-again c =
     let v = c .before .before .loop .inv in
     (omega arith, (v .1 .0, rw (c .rendering-word .ensures) (filled-next (shareWord (renderingPayload (c .before .before .before .before .args .samples .now)) (c .before .before .before .before .args .from)) (c .before .before .loop .i) _ _ (omega arith) (v .1 .1))))
 
--- src/gather.rt:39:1
 returns : tie.Need-returns Inv-loop μ-loop
 returns c = let v = c .before .loop .inv in filled-last (shareWord (renderingPayload (c .before .before .before .args .samples .now)) (c .before .before .before .args .from)) (c .before .loop .i) _ _ (omega arith) (v .1 .1) ∙ ap (listOf (shareWord (renderingPayload (c .before .before .before .args .samples .now)) (c .before .before .before .args .from))) (v .1 .0)
 
@@ -64,11 +34,11 @@ outer-share-spec =
     Inv-loop
     μ-loop
     loop-holds
-    add-rendering-word
-    rendering-word-requires
-    mul-words
-    array-write-words
-    add-i
-    loop-less
+    (λ c. search needs)
+    (λ c κs. search needs)
+    (λ c. search needs)
+    (λ c. search needs)
+    (λ c. search needs)
+    (λ c. search needs)
     loop-again
     returns)
