@@ -4,10 +4,10 @@ use mathlib.Core.List.{List, [], _∷_, _++_, append-assoc}
 use Prim.Native.Nat.{ℕ, _+_, _-_, _*_, _%_, _<_}
 use native.Mathlib.Numerals.{add-one}
 use native.Mathlib.Omega.{arith}
-use lib.ListN.{length, getD, set, take}
+use lib.ListN.{length, getD, take}
 use lib.Seq.{sets, length-take-le, take-suc}
 use Rattle.tables.specs.Stores.{sets-append}
-use Rattle.tables.specs.Lists.{listOf, list-length}
+use Rattle.tables.specs.Lists.{listOf}
 use Rattle.house.specs.Bytes.{wordFrom, fourBytes, bytesOf, total, wrappingSum, allOnes}
 use Rattle.house.specs.File.{closed}
 
@@ -35,18 +35,6 @@ wrapping-next f i s w r e g h =
     let t : total (listOf f (i + 1)) ≡ total (listOf f i) + f i =
     rw add-one (total-append (listOf f i) (f i ∷ []) ∙ let z : f i + 0 ≡ f i = omega arith in ap (λ (x : ℕ). total (listOf f i) + x) z) in
     omega arith
-
--- ---- a loop that stores f i at i, from the index b on
-
-pub stores-start : (f : ℕ → ℕ) (b : ℕ) (l : List ℕ) → l ≡ sets l b (listOf f 0)
-unfolding listOf
-stores-start f b l = refl
-
-pub stores-next : (f : ℕ → ℕ) (b i w : ℕ) (l m : List ℕ) → m ≡ sets l b (listOf f i) → w ≡ f i → set m (b + i) w ≡ sets l b (listOf f (i + 1))
-unfolding listOf
-stores-next f b i w l m e g =
-    let z : b + i ≡ b + length (listOf f i) = ap (λ (x : ℕ). b + x) (sym (list-length f i)) in
-    rw (e, g, add-one) (sets-append l b (b + i) (listOf f i) (f i ∷ []) z)
 
 -- ---- bytes of words
 

@@ -7,13 +7,13 @@ use native.Mathlib.Omega.{arith}
 use lib.ListN.{length, List·getD-eq-default}
 use Rattle.tables.specs.Stores.{Each}
 use Rattle.tables.specs.Lists.{listOf, list-length, list-at, list-same}
+use Rattle.house.specs.Generic.{list-add, list-next, shifted}
 use Rattle.house.specs.Bytes.{wordFrom, wordAt, fourBytes, bytesOf, total, wrappingSum}
 use Rattle.house.specs.BytesLaws.{total-append}
 use Rattle.house.specs.Frame.{blockCount, blockWord, kindIn, usedIn, payloadLength, payloadWord}
 use Rattle.house.specs.Framed.{Sound, Framed}
 use Rattle.house.specs.File.{padded, closed, checkOf, blockWords, share, shareWord, blocksFor, fileWords, fileOf}
 use Rattle.house.specs.Gather.{share-length, share-is}
-use Rattle.house.specs.PayloadLaws.{shifted, list-add}
 
 -- a byte of 8 bits. Of a lent `&[u8]` every one is
 abbrev pub Byte : ℕ → Type 0
@@ -69,10 +69,6 @@ bytes-of-words (suc n) (a ∷ b ∷ c ∷ d ∷ x) l h =
     let r = bytes-of-words n x (omega arith) (λ i. h (suc (suc (suc (suc i))))) in
     ap bytesOf e ∙ (ap (λ (y : ℕ). fourBytes y ++ bytesOf (listOf (wordAt x) n)) (word-first a b c d x)
     ∙ (four-of a b c d (h 0) (h 1) (h 2) (h 3) (bytesOf (listOf (wordAt x) n)) ∙ ap (λ (y : List ℕ). a ∷ b ∷ c ∷ d ∷ y) r))
-
-list-next : (g : ℕ → ℕ) (n : ℕ) → listOf g (suc n) ≡ listOf g n ++ (g n ∷ [])
-unfolding listOf
-list-next g n = refl
 
 -- ---- the words of an accepted file, block by block
 module _ (low high : ℕ) (x : List ℕ) (f : Framed low high x) (h : Each Byte x) where

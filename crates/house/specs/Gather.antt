@@ -1,26 +1,18 @@
 -- What one block has of a payload, word by word with zeros past its end, is its share with zeros behind it. Assumes nothing.
-use mathlib.Core.Path.{_≡_, refl, sym, ap, _∙_}
+use mathlib.Core.Path.{_≡_, refl, sym, _∙_}
 use mathlib.Core.List.{List, _++_}
 use Prim.Native.Nat.{ℕ, zero, suc, _+_, _-_, _*_, _≤_, _<_, min}
 use native.Mathlib.Decide.{decLt}
 use native.Mathlib.Omega.{arith}
-use lib.ListN.{length, getD, drop, length-append, length-take, length-drop, List·getD-append, List·getD-eq-default}
-use lib.Seq.{ext-getD, getD-append-add, getD-take, getD-drop}
+use lib.ListN.{length, getD, drop, length-append, length-take, length-drop, List·getD-eq-default}
+use lib.Seq.{ext-getD, getD-take, getD-drop}
 use Rattle.tables.specs.Parts.{part}
 use Rattle.tables.specs.Zeros.{zeros, zeros-length, zeros-at}
 use Rattle.tables.specs.Lists.{listOf, list-length, list-at, list-same}
+use Rattle.house.specs.Generic.{append-in, append-past}
 use Rattle.house.specs.File.{padded, share, shareWord}
 use Rattle.house.specs.declared.Contents.{Contents}
 use Rattle.house.specs.Payload.{headWords, effectPayload, renderingPayload}
-
--- ---- generic: a word of one list behind another
-pub append-in : (l m : List ℕ) (i : ℕ) → i < length l → getD (l ++ m) i 0 ≡ getD l i 0
-append-in l m i h = List·getD-append l m 0 i h
-
-pub append-past : (l m : List ℕ) (i : ℕ) → length l ≤ i → getD (l ++ m) i 0 ≡ getD m (i - length l) 0
-append-past l m i h =
-    let z : i ≡ length l + (i - length l) = omega arith in
-    ap (λ (x : ℕ). getD (l ++ m) x 0) z ∙ getD-append-add l m (i - length l) 0
 
 -- ---- a block's share
 pub share-length : (payload : List ℕ) (b : ℕ) → length (share payload b) ≡ min 124 (length payload - 124 * b)

@@ -10,7 +10,13 @@ pub mod Payload
 -- the four calls
 pub mod Read
 pub mod Write
--- laws that the proofs of the code cite
+-- theorems: reading back gives the same, no other bytes do, kinds are never mixed
+pub mod RenderingFiles
+pub mod BlockFiles
+-- kernel K
+pub mod Kernels
+-- laws that the theorems and the proofs of the code cite
+pub mod Generic
 pub mod BytesLaws
 pub mod FrameLaws
 pub mod PayloadLaws
@@ -21,6 +27,3 @@ pub mod FileLaws
 pub mod WriteLaws
 pub mod ReadBack
 pub mod Canonical
-pub mod Theorems
-pub mod TheoremsBlock
-pub mod Kernels

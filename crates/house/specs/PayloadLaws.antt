@@ -1,26 +1,16 @@
 -- Copying a section of the payload, block by block. Assumes nothing.
 use mathlib.Core.Path.{_≡_, refl, sym, ap, _∙_}
-use mathlib.Core.List.{List, [], _∷_, _++_, append-assoc, append-nil}
-use Prim.Native.Nat.{ℕ, zero, suc, _+_, _*_, _/_, _%_, _≤_, _<_}
+use mathlib.Core.List.{List}
+use Prim.Native.Nat.{ℕ, _+_, _*_, _/_, _%_, _≤_, _<_}
 use native.Mathlib.Omega.{arith}
 use lib.Seq.{sets}
 use Rattle.tables.specs.Stores.{sets-append}
 use Rattle.tables.specs.Lists.{listOf, list-length, list-same}
 use Rattle.tables.specs.Zeros.{copied}
+use Rattle.house.specs.Generic.{list-add, shifted}
 use Rattle.house.specs.Bytes.{wordsFrom}
 use Rattle.house.specs.Frame.{payloadFrom, section}
 use Rattle.house.specs.FrameLaws.{payload-at}
-
--- ---- generic: f of the indices from i on
-abbrev pub shifted : (ℕ → ℕ) → ℕ → ℕ → ℕ
-shifted f i k = f (i + k)
-
-pub list-add : (f : ℕ → ℕ) (i n : ℕ) → listOf f (i + n) ≡ listOf f i ++ listOf (shifted f i) n
-unfolding listOf
-list-add f i zero = let z : i + 0 ≡ i = omega arith in rw (z, append-nil)
-list-add f i (suc n) =
-    let z : i + suc n ≡ suc (i + n) = omega arith in
-    rw z (ap (λ (x : List ℕ). x ++ (f (i + n) ∷ [])) (list-add f i n) ∙ append-assoc (listOf f i) (listOf (shifted f i) n) (f (i + n) ∷ []))
 
 -- ---- the loop's start, and its turn: the words i to i + n stand in one block, b, from its payload word k on
 pub section-start : (bytes : List ℕ) (from : ℕ) (l : List ℕ) → l ≡ copied (section bytes from 0) l

@@ -12,14 +12,14 @@ use borrow.Author.Tests.{le-ltb, ltb-true, eq-eqb, ne-eqb}
 use Rattle.tables.specs.Tests.{differs-not, or-none, cond-pred}
 use Rattle.tables.specs.Loops.{some-none}
 use Rattle.tables.specs.Lists.{listOf, list-length, list-at}
-use Rattle.answers.specs.Numbers.{Answer, accepted}
-use Rattle.answers.specs.Order.{inOrder}
-use Rattle.answers.specs.OrderLaws.{then-pass, refuse-pass, refuse-off}
+use Rattle.answers.specs.Numbers.{accepted}
+use Rattle.answers.specs.OrderLaws.{refuse-pass, refuse-off}
+use Rattle.house.specs.Generic.{append-in, append-past, in-order-all}
 use Rattle.house.specs.Bytes.{wordFrom, wordAt, fourBytes, bytesOf, total, wrappingSum, allOnes}
 use Rattle.house.specs.BytesLaws.{total-append}
 use Rattle.house.specs.Frame.{blockCount, blockWord, kindIn, numberIn, usedIn, payloadIn, wrongCheck, otherKind, wrongKind, wrongUsed, unusedWord, restNotZero, badFrame, blockAnswer, wrongLength, frameAnswer, payloadLength, payloadWord}
 use Rattle.house.specs.File.{padded, closed, blockWords, share, blocksFor, fileWords, fileOf}
-use Rattle.house.specs.Gather.{append-in, append-past, share-length, padded-length, padded-at}
+use Rattle.house.specs.Gather.{share-length, padded-length, padded-at}
 use Rattle.house.specs.FileLaws.{block-length, words-length, file-length}
 
 -- ---- bytes and words
@@ -144,11 +144,6 @@ module _ (low high kind : ℕ) (payload : List ℕ) (f : low ≤ kind) (t : kind
   block-accepted =
       refuse-pass 20 _ check-right
       ∙ refuse-off 21 (or-none _ _ (or-none _ _ (or-none _ _ kind-right (differs-not _ _ (number-is kind payload b h))) used-right) rest-right)
-
-in-order-all : (answer : ℕ → Answer Unit) (n : ℕ) → ((i : ℕ) → i < n → answer i ≡ accepted tt) → inOrder answer n ≡ accepted tt
-unfolding inOrder
-in-order-all answer zero h = refl
-in-order-all answer (suc n) h = then-pass (answer n) (in-order-all answer n (λ i l. h i (omega arith))) ∙ h n (omega arith)
 
 -- THE FRAME OF A WRITTEN FILE IS ACCEPTED by a reader that takes its kind
 pub frame-accepted : (low high kind : ℕ) (payload : List ℕ) → low ≤ kind → kind ≤ high → 1 ≤ length payload → frameAnswer low high (fileOf kind payload) ≡ accepted tt

@@ -3,7 +3,7 @@ use crate::Contents;
 use crate::gather;
 use crate::words;
 ghost use mathlib.Core.Path.{_≡_};
-ghost use Prim.Native.Nat.{_+_, _-_, _≤_, min};
+ghost use Prim.Native.Nat.{_+_, _-_, _≤_, _<_, min};
 ghost use mathlib.Core.List.{_∷_};
 ghost use lib.ListN.{length};
 ghost use lib.Seq.{sets};
@@ -63,7 +63,7 @@ pub fn put_block(
 
 // How many blocks a payload of `count` words needs.
 pub fn blocks_for(count: usize) -> usize
-    requires { ⌜ count ≤ 4294967296 ⌝ }
+    requires { ⌜ count < 1099511627776 ⌝ }
     ensures { λ r. ⌜ r ≡ blocksFor count ⌝ }
 {
     (count + 123) / 124

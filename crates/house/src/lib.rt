@@ -10,7 +10,9 @@ use answers::Refusal;
 use answers::Verdict;
 use block::Header;
 ghost use mathlib.Core.Path.{_≡_};
-ghost use Rattle.house.specs.Payload.{kindOf, engineOf};
+ghost use Prim.Native.Nat.{_+_};
+ghost use Rattle.house.specs.Payload.{contentsEnd, kindOf, engineOf};
+ghost use Rattle.house.specs.File.{fileLength};
 ghost use Rattle.house.specs.Read.{tables, blockAnswerOf, blockOutcome, readBlockCall, renderingAnswerOf, renderingOutcome, readRenderingCall};
 ghost use Rattle.block.specs.Block.{block};
 ghost use Rattle.house.specs.Write.{writtenOf, outcome, writeBlockCall, writeRenderingCall};
@@ -133,6 +135,21 @@ fn kind_of(engine: Engine) -> u32
         Engine::Graph => GRAPH_KIND,
         Engine::Steps => STEP_KIND,
     }
+}
+
+// How many bytes the file of a rendering of so many samples has.
+pub fn rendering_bytes(samples: u32) -> usize
+    ensures { λ r. ⌜ r ≡ fileLength (1 + samples) ⌝ }
+{
+    let count = samples as usize;
+    512 * blocks::blocks_for(1 + count)
+}
+
+// How many bytes the file of an effect block of these counts has.
+pub fn block_bytes(contents: Contents) -> usize
+    ensures { λ r. ⌜ r ≡ fileLength (contentsEnd contents) ⌝ }
+{
+    512 * blocks::blocks_for(effect::contents_end(contents))
 }
 
 // Writes a rendering's file over the first bytes of a lent buffer: 13 where there are too many samples or too few bytes, and then nothing is written.

@@ -6,8 +6,8 @@ use lib.ListN.{length, length-set}
 use borrow.Author.Needs.{needs}
 use lib.Seq.{sets}
 use Rattle.tables.specs.Lists.{listOf}
+use Rattle.house.specs.Generic.{stores-next, stores-start}
 use Rattle.house.specs.Bytes.{wordsFrom}
-use Rattle.house.specs.BytesLaws.{stores-start, stores-next}
 use Rattle.house.proofs.payload.copy_words.Statement.{statement}
 use Rattle.house.proofs.payload.copy_words.Tie as tie
 

@@ -1,19 +1,20 @@
 -- Document 01, "House file": "Reading back gives the same tables, and no other bytes do"; a file of one kind never reads as another. Assumes nothing.
 use mathlib.Core.Path.{_≡_, refl, sym, ap, _∙_}
 use mathlib.Core.Bool.{Bool, true, false}
-use mathlib.Core.List.{List, _∷_, _++_}
+use mathlib.Core.List.{List, _∷_}
 use Prim.Native.Nat.{ℕ, suc, _+_, _≤_, _<_}
 use native.Mathlib.Omega.{arith}
-use lib.ListN.{length, getD, take, drop}
-use lib.Seq.{ext-getD, take-at, take-all}
+use lib.ListN.{length, getD, take}
+use lib.Seq.{ext-getD}
 use lib.Dec.{ltb, eqb}
 use borrow.Author.Tests.{ltb-false, eqb-true, eqb-false}
 use Rattle.tables.specs.Tests.{neither, same-of}
 use Rattle.tables.specs.Stores.{Each}
-use Rattle.tables.specs.Zeros.{copied, copied-is}
+use Rattle.tables.specs.Zeros.{copied}
 use Rattle.tables.specs.Lists.{listOf, list-length, list-at}
 use Rattle.answers.specs.Numbers.{accepted}
 use Rattle.answers.specs.OrderLaws.{then-accepted, refuse-accepted}
+use Rattle.house.specs.Generic.{copied-first, list-add}
 use Rattle.house.specs.declared.Engine.{Engine}
 use Rattle.house.specs.declared.Engine.the-variants.{Graph, Steps}
 use Rattle.house.specs.declared.Rendering.{Rendering}
@@ -22,7 +23,6 @@ use Rattle.house.specs.Framed.{Framed, framed}
 use Rattle.house.specs.File.{fileOf}
 use Rattle.house.specs.FileLaws.{file-length}
 use Rattle.house.specs.Payload.{kindOf, engineOf, renderingIn, samplesAt, renderingPayload, renderingFile}
-use Rattle.house.specs.PayloadLaws.{list-add}
 use Rattle.house.specs.Read.{readRenderingAnswer, readSamples, RenderingOutcome, renderingOutcome, readRenderingCall}
 use Rattle.house.specs.ReadLaws.{rendering-done}
 use Rattle.house.specs.Write.{writtenBytes, mostSamples, renderingBytes, writeRenderingAnswer, writeRenderingCall}
@@ -36,12 +36,6 @@ pub section-is : (x : List ℕ) (from n : ℕ) (l : List ℕ) → n ≡ length l
 section-is x from n l e h =
     let s = list-length (payloadFrom x from) n in
     ext-getD 0 (section x from n) l (omega arith) (λ i g. list-at (payloadFrom x from) n i (omega arith) ∙ h i (omega arith))
-
--- the first words of a table after a copy are those copied
-pub copied-first : (from to : List ℕ) (n : ℕ) → length from ≡ n → n ≤ length to → take n (copied from to) ≡ from
-copied-first from to n e h =
-    ap (take n) (copied-is from to)
-    ∙ (ap (λ (l : List ℕ). take n (l ++ drop (length from) to)) (take-all (length to) from (omega arith)) ∙ take-at from (drop (length from) to) n e)
 
 kind-engine : (e : Engine) → engineOf (kindOf e) ≡ e
 kind-engine Graph = refl
@@ -63,7 +57,6 @@ pub read-back-rendering : (e : Engine) (s t : List ℕ) → length s ≤ length 
     → readRenderingCall (renderingFile e s) t ≡ renderingOutcome (accepted (record { engine = e; samples = length s })) (copied s t)
 read-back-rendering e s t h =
     let k = kind-bounds e in
-    let x = renderingFile e s in
     let l = payload-length-is (kindOf e) (renderingPayload s) (omega arith) in
     let v = section-is (renderingFile e s) 1 (length s) s refl
     (λ j g. let z : 1 + j ≡ suc j = omega arith in payload-word-is (kindOf e) (renderingPayload s) (1 + j) (omega arith) ∙ rw z) in
@@ -115,6 +108,13 @@ kind-told x t r a =
     let o = v .frame .some in
     let s = v .frame .sound 0 (omega arith) in
     engine-kind (kindIn x 0) (s .from) (s .upTo) ∙ ap (λ (y : Rendering). kindOf (y .engine)) (sym (v .says))
+
+-- so a graph rendering never reads as a step rendering, nor the other way round
+pub graph-told : (x t : List ℕ) (r : Rendering) → readRenderingAnswer x t ≡ accepted r → kindIn x 0 ≡ graphKind → r .engine ≡ Graph
+graph-told x t r a e = ap (λ (y : Rendering). y .engine) (reads-rendering x t r a .says) ∙ ap engineOf e
+
+pub steps-told : (x t : List ℕ) (r : Rendering) → readRenderingAnswer x t ≡ accepted r → kindIn x 0 ≡ stepKind → r .engine ≡ Steps
+steps-told x t r a e = ap (λ (y : Rendering). y .engine) (reads-rendering x t r a .says) ∙ ap engineOf e
 
 -- ---- NO OTHER BYTES: a file that reads as a rendering is the file that is written of its engine and its samples
 pub only-rendering : (x t : List ℕ) (r : Rendering) → Each Byte x → readRenderingCall x t .answer ≡ accepted r

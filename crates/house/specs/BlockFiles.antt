@@ -16,13 +16,13 @@ use Rattle.block.specs.Block.{Block, parameterCount, stateCount, delayCount, no
 use Rattle.block.specs.Validation.{validation}
 use Rattle.block.specs.Valid as Valids
 use Rattle.block.specs.Valid.{valid}
+use Rattle.house.specs.Generic.{copied-first, list-add}
 use Rattle.house.specs.declared.Contents.{Contents}
 use Rattle.house.specs.Frame.{effectKind, kindIn, payloadLength, payloadWord, payloadFrom, section}
 use Rattle.house.specs.Framed.{Framed, framed}
 use Rattle.house.specs.File.{fileOf}
 use Rattle.house.specs.FileLaws.{file-length}
 use Rattle.house.specs.Payload.{contentsIn, parametersAt, statesAt, delaysAt, nodesAt, contentsEnd, contentsOf, headWords, effectPayload, blockPayload, blockFile}
-use Rattle.house.specs.PayloadLaws.{list-add}
 use Rattle.house.specs.Read.{Tables, tables, tablesShort, readBlockAnswer, readTables, BlockOutcome, blockOutcome, readBlockCall}
 use Rattle.house.specs.ReadLaws.{block-done, Room, tables-room, tables-read}
 use Rattle.house.specs.Write.{writtenBytes, blockBytes, writeBlockAnswer, writeBlockCall}
@@ -30,7 +30,7 @@ use Rattle.house.specs.WriteLaws.{payload-count}
 use Rattle.house.specs.Gather.{word-parameter, word-state, word-delay, word-node}
 use Rattle.house.specs.ReadBack.{frame-accepted, payload-length-is, payload-word-is}
 use Rattle.house.specs.Canonical.{Byte, payloadOf, canonical}
-use Rattle.house.specs.Theorems.{section-is, copied-first}
+use Rattle.house.specs.RenderingFiles.{section-is}
 
 -- ---- a block's file as it is read. The tables are whole records, as those of a valid block are
 module _ (b : Block) (v : Valids.Valid b) where
