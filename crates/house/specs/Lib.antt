@@ -13,6 +13,8 @@ pub mod Write
 -- theorems: reading back gives the same, no other bytes do, kinds are never mixed
 pub mod RenderingFiles
 pub mod BlockFiles
+-- the numbers fix the results
+pub mod Tells
 -- kernel K
 pub mod Kernels
 -- laws that the theorems and the proofs of the code cite
