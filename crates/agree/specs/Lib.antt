@@ -15,4 +15,3 @@ pub mod Checked
 pub mod CheckedLaws
 pub mod Ordered
 pub mod OrderedLaws
-pub mod Examples
