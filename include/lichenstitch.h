@@ -116,6 +116,22 @@ uint32_t lichenstitch_step_run(uint32_t version, uint32_t category, uint32_t cha
                                uint32_t *cursors, size_t cursors_length, uint32_t *output, size_t output_length,
                                uint32_t *answer, size_t answer_length);
 
+// The step checker: whether a kernel's step run is, for every input, the block's graph run. `mask` says which registers its steps
+// may use: bit n for register n, the low sixteen. For N expanded nodes, S states and D delays the caller lends:
+//   expansion  3N words or more: the expanded nodes are written to its first 3N
+//   work       8N + 8(S + D) + 320 words, and one for each declared control and spill slot, or more; left as zeros
+// Passed: 0, and answer is left as it was. Refused: 13 a table shorter than its count; 19 a list that does not pass, and then
+// answer[0] is the first failing step's position from 0, control first, or the number of all steps where a store is missing at
+// the end; the expansion is written and work is zeros as where it passes.
+uint32_t lichenstitch_check(uint32_t version, uint32_t category, uint32_t channels, uint32_t network, uint32_t output,
+                            const uint32_t *parameters, size_t parameters_length, const uint32_t *states,
+                            size_t states_length, const uint32_t *delays, size_t delays_length, const uint32_t *nodes,
+                            size_t nodes_length, uint32_t mask, uint32_t control_steps, uint32_t sample_steps,
+                            uint32_t instruction_count, uint32_t control_slots, uint32_t spill_slots,
+                            const uint32_t *steps, size_t steps_length, const uint32_t *instructions,
+                            size_t instructions_length, uint32_t *expansion, size_t expansion_length, uint32_t *work,
+                            size_t work_length, uint32_t *answer, size_t answer_length);
+
 #ifdef __cplusplus
 }
 #endif

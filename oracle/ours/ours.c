@@ -102,6 +102,9 @@ static uint32_t call(uint32_t function, uint32_t slices) {
         return lichenstitch_step_run(HEADER, BLOCK, scalar[5], scalar[6], scalar[7], scalar[8], scalar[9], TABLE(4),
                                      TABLE(5), TABLE(6), TABLE(7), TABLE(8), scalar[10], TABLE(9), TABLE(10), TABLE(11),
                                      TABLE(12), TABLE(13), TABLE(14), TABLE(15), TABLE(16), TABLE(17));
+    case 17:
+        return lichenstitch_check(HEADER, BLOCK, scalar[5], scalar[6], scalar[7], scalar[8], scalar[9], scalar[10], TABLE(4),
+                                  TABLE(5), TABLE(6), TABLE(7), TABLE(8));
     default: _exit(2);
     }
 }

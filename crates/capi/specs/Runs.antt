@@ -1,4 +1,4 @@
--- How set, reset and the runs cross to C: a `Crossing`, and the tables that the call may write as it leaves them.
+-- How set, reset, the runs and the step checker cross to C: a `Crossing`, and the tables that the call may write as it leaves them.
 use mathlib.Core.Path.{_≡_, refl, sym, ap, _∙_}
 use mathlib.Core.Bool.{Bool, true, false, cond}
 use mathlib.Core.List.{List, [], append-nil}
@@ -24,6 +24,7 @@ use Rattle.memory.specs.Signals.{Signals}
 use Rattle.step_run.specs.declared.Done.{Done}
 use Rattle.step_run.specs.declared.Answer as Declared
 use Rattle.step_run.specs.Run as Step
+use Rattle.checker.specs.Check as Check
 use Rattle.capi.specs.Crossing.{Crossing, crossing, verdictCrossing, refusedCrossing}
 
 -- the result and the answer words, and what else the call may write
@@ -43,6 +44,10 @@ resetCrossing o lent = crossed (verdictCrossing (o .answer) lent) (o .memories)
 
 abbrev pub graphCrossing : Graph.Outcome → List ℕ → Crossed Graph.Tables
 graphCrossing o lent = crossed (verdictCrossing (o .answer) lent) (o .tables)
+
+-- the step checker says nothing where a list passes; of 19's position the first answer word holds the low 32 bits
+abbrev pub checkCrossing : Check.Outcome → List ℕ → Crossed Check.Tables
+checkCrossing o lent = crossed (verdictCrossing (o .answer) lent) (o .tables)
 
 -- the kernel's five counts
 abbrev pub counted : ℕ → ℕ → ℕ → ℕ → ℕ → Kernel
@@ -90,6 +95,10 @@ reset-crosses a m o lent c = crosses resetCrossing (resetOutcome a m) o c (verdi
 pub graph-crosses : (a : Answer Unit) (t : Graph.Tables) (o : Graph.Outcome) (lent : List ℕ) (c : Crossing) → Graph.outcome a t ≡ o
     → c ≡ verdictCrossing a lent → crossed c t ≡ graphCrossing o lent
 graph-crosses a t o lent c = crosses graphCrossing (Graph.outcome a t) o c (verdictCrossing a lent) t lent refl
+
+pub check-crosses : (a : Answer Unit) (t : Check.Tables) (o : Check.Outcome) (lent : List ℕ) (c : Crossing) → Check.outcome a t ≡ o
+    → c ≡ verdictCrossing a lent → crossed c t ≡ checkCrossing o lent
+check-crosses a t o lent c = crosses checkCrossing (Check.outcome a t) o c (verdictCrossing a lent) t lent refl
 
 -- ---- the step run: a valid block is refused by 13 where the registers are short; otherwise they are copied in and out
 pub short-handed-on : (b : Block) (v : Verdict) {r : Refusal} → answerOf v ≡ validation b → v ≡ Refused r → answerOf v ≡ shortRegisters b

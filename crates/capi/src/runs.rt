@@ -19,7 +19,7 @@ ghost use Rattle.capi.specs.Crossing.{crossing, verdictCrossing, header}
 ghost use Rattle.capi.specs.Runs.{crossed, setCrossing, resetCrossing, graphCrossing, counted, doneCrossing, shortRegisters, stepCall};
 
 // An answer that says nothing where it accepts.
-fn cross(verdict: Verdict, answer: &mut [u32]) -> u32
+pub fn cross(verdict: Verdict, answer: &mut [u32]) -> u32
     ensures { λ r. ⌜ crossing r (now (answer .exit)) ≡ verdictCrossing (answerOf verdict) (now (answer .entry)) ⌝ }
 {
     match verdict {

@@ -1,10 +1,13 @@
 //! Compares Lichenstitch with the Rust. Run by ../compare and ../vectors.
 //!
-//! driver SUBJECT OURS SEED COUNT   SUBJECT: words, blocks, runs. OURS: the program made of ours/ours.c and the static library
+//! driver SUBJECT OURS SEED COUNT   SUBJECT: words, blocks, runs, checks. OURS: the program made of ours/ours.c and the static library
 //! driver bench OURS                times both sides
 //! driver vectors SUBJECT           prints vectors with the Rust's answers
 mod bench;
 mod blocks;
+mod check_cases;
+mod checker;
+mod checks;
 mod generate;
 mod ours;
 mod playing;
@@ -23,13 +26,14 @@ fn main() {
     let arguments: Vec<String> = std::env::args().skip(1).collect();
     let arguments: Vec<&str> = arguments.iter().map(String::as_str).collect();
     match arguments[..] {
-        [subject @ ("words" | "blocks" | "runs"), program, seed, count] => {
+        [subject @ ("words" | "blocks" | "runs" | "checks"), program, seed, count] => {
             let (seed, count) = (number(seed), number(count));
             let mut ours = Ours::start(program);
             let outcome = match subject {
                 "words" => words::compare(&mut ours, seed, count),
                 "blocks" => blocks::compare(&mut ours, seed, count),
-                _ => runs::compare(&mut ours, seed, count),
+                "runs" => runs::compare(&mut ours, seed, count),
+                _ => checks::compare(&mut ours, seed, count),
             };
             report(subject, seed, outcome);
         }
@@ -37,7 +41,7 @@ fn main() {
         ["vectors", "words"] => print!("{}", vectors::words()),
         ["vectors", "blocks"] => print!("{}", vectors::blocks()),
         ["vectors", "runs"] => print!("{}", run_vectors::runs()),
-        _ => panic!("usage: driver words|blocks|runs OURS SEED COUNT, driver bench OURS, driver vectors words|blocks|runs"),
+        _ => panic!("usage: driver words|blocks|runs|checks OURS SEED COUNT, driver bench OURS, driver vectors words|blocks|runs"),
     }
 }
 

@@ -23,6 +23,7 @@ pub enum Function {
     Reset,
     GraphRun,
     StepRun,
+    Check,
 }
 
 /// Set in a function's word where ours.c is to time the call.

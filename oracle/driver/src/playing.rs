@@ -167,22 +167,39 @@ fn scattered(random: &mut Random, block: &Tables) -> Memories {
     memories
 }
 
-/// What is asked of one random block: a reset, sets, and runs that go on where the run before ended.
-pub fn cases(random: &mut Random) -> Vec<(Play, Case)> {
+/// A random block with the memories that its first run finds.
+fn begun(random: &mut Random) -> Play {
     let block = block(random);
     let memories = if random.one_in(4) { scattered(random, &block) } else { start(&block) };
     let settings = block.parameters.chunks(3).map(|parameter| parameter[2]).collect();
-    let mut play = Play { block, settings, memories, input: vec![], network: vec![], spare: 0, extra: 0 };
+    Play { block, settings, memories, input: vec![], network: vec![], spare: 0, extra: 0 }
+}
+
+/// The next run's signals and parameter values.
+fn heard(random: &mut Random, play: &mut Play) {
+    let samples = if random.one_in(50) { random.below(2) } else { 1 + random.below(160) };
+    play.input = signal(random, samples);
+    play.network = if play.block.network == 1 { signal(random, samples) } else { vec![] };
+    play.spare = if random.one_in(3) { random.below(4) } else { 0 };
+    play.extra = random.word();
+    for (setting_word, parameter) in play.settings.iter_mut().zip(play.block.parameters.chunks(3)) {
+        *setting_word = setting(random, parameter);
+    }
+}
+
+/// One run of a random block, and the registers that its kernel may use.
+pub fn played(random: &mut Random) -> (Play, u16) {
+    let mut play = begun(random);
+    heard(random, &mut play);
+    (play, mask(random))
+}
+
+/// What is asked of one random block: a reset, sets, and runs that go on where the run before ended.
+pub fn cases(random: &mut Random) -> Vec<(Play, Case)> {
+    let mut play = begun(random);
     let mut cases = vec![(play.clone(), Case::Reset)];
     for _ in 0..1 + random.below(3) {
-        let samples = if random.one_in(50) { random.below(2) } else { 1 + random.below(160) };
-        play.input = signal(random, samples);
-        play.network = if play.block.network == 1 { signal(random, samples) } else { vec![] };
-        play.spare = if random.one_in(3) { random.below(4) } else { 0 };
-        play.extra = random.word();
-        for (setting_word, parameter) in play.settings.iter_mut().zip(play.block.parameters.chunks(3)) {
-            *setting_word = setting(random, parameter);
-        }
+        heard(random, &mut play);
         cases.push((play.clone(), Case::Graph));
         cases.push((play.clone(), Case::Steps(mask(random))));
         cases.push((play.clone(), set(random, &play)));

@@ -124,11 +124,11 @@ pub fn compiled(play: &Play, mask: u16) -> Result<Kernel, Skipped> {
     })
 }
 
-fn header(block: &Tables) -> Vec<u32> {
+pub fn header(block: &Tables) -> Vec<u32> {
     vec![block.version, block.category, block.channels, block.network, block.output]
 }
 
-fn tables(block: &Tables) -> Vec<(&'static str, Vec<u32>)> {
+pub fn tables(block: &Tables) -> Vec<(&'static str, Vec<u32>)> {
     vec![
         ("parameters", block.parameters.clone()),
         ("states", block.states.clone()),
@@ -146,7 +146,7 @@ fn memory_tables(memories: &Memories) -> [(&'static str, Vec<u32>); 3] {
 }
 
 /// The first words, and then `spare` lent ones that stay.
-fn with_spare(mut words: Vec<u32>, spare: usize) -> Vec<u32> {
+pub fn with_spare(mut words: Vec<u32>, spare: usize) -> Vec<u32> {
     let count = words.len() + spare;
     words.extend(&lent(count)[words.len()..]);
     words
@@ -166,78 +166,91 @@ impl Case {
     }
 }
 
-fn expansion(play: &Play) -> Result<Vec<u32>, Skipped> {
-    Ok(Tables::of(&play.block.block(&play.network).ok_or(Skipped::Invalid)?.expanded()).nodes)
+pub fn expanded(play: &Play) -> Result<Tables, Skipped> {
+    Ok(Tables::of(&play.block.block(&play.network).ok_or(Skipped::Invalid)?.expanded()))
 }
 
-fn graph_question(play: &Play) -> Result<Question, Skipped> {
+/// A graph run; what it must leave is not said.
+pub fn graph_call(play: &Play, expanded: &Tables) -> Question {
     let spare = play.spare;
-    let rendered = rendered(play, None).ok_or(Skipped::Invalid)?;
-    let expansion = expansion(play)?;
-    let values = expansion.len() / 3 + spare;
     let mut slices = tables(&play.block);
     slices.push(("settings", play.settings.clone()));
     slices.push(("input", play.input.clone()));
     slices.push(("network", play.sent(play.input.len())));
-    slices.push(("the expansion", lent(expansion.len() + spare)));
-    slices.push(("values", lent(values)));
-    slices.extend(memory_tables(&play.memories));
-    slices.push(("output", lent(play.input.len())));
-    slices.push(("answer", lent(2)));
-    let mut left = vec![("the expansion", with_spare(expansion, spare)), ("values", vec![0; values])];
-    left.extend(memory_tables(&rendered.memories));
-    left.push(("output", rendered.output));
+    let mut left = vec![
+        ("the expansion", lent(expanded.nodes.len() + spare)),
+        ("values", lent(expanded.nodes.len() / 3 + spare)),
+    ];
+    left.extend(memory_tables(&play.memories));
+    left.push(("output", lent(play.input.len())));
     left.push(("answer", lent(2)));
-    Ok(Question { function: Function::GraphRun, scalars: header(&play.block), slices, number: 0, left })
+    slices.extend(left.clone());
+    Question { function: Function::GraphRun, scalars: header(&play.block), slices, number: 0, left }
 }
 
-/// The input has `spare` words more than the budget has steps for.
+fn graph_question(play: &Play) -> Result<Question, Skipped> {
+    let rendered = rendered(play, None).ok_or(Skipped::Invalid)?;
+    let expanded = expanded(play)?;
+    let mut question = graph_call(play, &expanded);
+    let values = question.left[1].1.len();
+    question.left = vec![("the expansion", with_spare(expanded.nodes, play.spare)), ("values", vec![0; values])];
+    question.left.extend(memory_tables(&rendered.memories));
+    question.left.push(("output", rendered.output));
+    question.left.push(("answer", lent(2)));
+    Ok(question)
+}
+
+/// A step run; what it must leave is not said. The input has `spare` words more than the budget has steps for.
+pub fn step_call(play: &Play, expanded: &Tables, kernel: &KernelTables) -> Question {
+    let (spare, done) = (play.spare, play.input.len());
+    let [control, sample, _, slots, spills] = kernel.counts;
+    let budget = if spare == 0 { u32::MAX - done as u32 } else { control + done as u32 * sample + play.extra % sample };
+    let mut scalars = header(&play.block);
+    scalars.extend(kernel.counts);
+    scalars.push(budget);
+    let mut slices = tables(&play.block);
+    slices.push(("steps", with_spare(kernel.steps.clone(), spare)));
+    slices.push(("instructions", with_spare(kernel.instructions.clone(), spare)));
+    slices.push(("settings", play.settings.clone()));
+    slices.push(("input", with_spare(play.input.clone(), spare)));
+    slices.push(("network", play.sent(done + spare)));
+    let mut left = vec![
+        ("registers", lent(16 + spare)),
+        ("the expansion", lent(expanded.nodes.len() + spare)),
+        ("control slots", lent(slots as usize + spare)),
+        ("spill slots", lent(spills as usize + spare)),
+    ];
+    left.extend(memory_tables(&play.memories));
+    left.push(("output", lent(done + spare)));
+    left.push(("answer", lent(2)));
+    slices.extend(left.clone());
+    Question { function: Function::StepRun, scalars, slices, number: 0, left }
+}
+
 fn steps_question(play: &Play, mask: u16) -> Result<Question, Skipped> {
     let (spare, done) = (play.spare, play.input.len());
     let kernel = compiled(play, mask)?;
     let words = KernelTables::of(&kernel);
-    let [control, sample, _, slots, spills] = words.counts;
     let rendered = rendered(play, Some(kernel)).ok_or(Skipped::Invalid)?;
-    let expansion = expansion(play)?;
-    let spent = control + done as u32 * sample;
-    let budget = if spare == 0 { u32::MAX - done as u32 } else { spent + play.extra % sample };
-    let mut scalars = header(&play.block);
-    scalars.extend(words.counts);
-    scalars.push(budget);
-    let mut slices = tables(&play.block);
-    slices.push(("steps", with_spare(words.steps, spare)));
-    slices.push(("instructions", with_spare(words.instructions, spare)));
-    slices.push(("settings", play.settings.clone()));
-    slices.push(("input", with_spare(play.input.clone(), spare)));
-    slices.push(("network", play.sent(done + spare)));
-    let mut before = vec![
-        ("registers", lent(16 + spare)),
-        ("the expansion", lent(expansion.len() + spare)),
-        ("control slots", lent(slots as usize + spare)),
-        ("spill slots", lent(spills as usize + spare)),
-    ];
-    before.extend(memory_tables(&play.memories));
-    before.push(("output", lent(done + spare)));
-    before.push(("answer", lent(2)));
-    let mut left = before.clone();
-    left[1].1 = with_spare(expansion, spare);
-    *left.last_mut().unwrap() = ("answer", vec![0, 0]);
+    let expanded = expanded(play)?;
+    let mut question = step_call(play, &expanded, &words);
+    let left = &mut question.left;
+    left[1].1 = with_spare(expanded.nodes, spare);
+    left[8].1 = vec![0, 0];
     if done > 0 {
         let Machine { registers, mut control, mut spills } = rendered.machine;
         control.resize(control.len() + spare, 0);
         spills.resize(spills.len() + spare, 0);
-        left = vec![
-            ("registers", with_spare(registers, spare)),
-            left.swap_remove(1),
-            ("control slots", control),
-            ("spill slots", spills),
-        ];
-        left.extend(memory_tables(&rendered.memories));
-        left.push(("output", with_spare(rendered.output, spare)));
-        left.push(("answer", vec![done as u32, spent]));
+        left[0].1 = with_spare(registers, spare);
+        left[2].1 = control;
+        left[3].1 = spills;
+        for (before, after) in left[4..7].iter_mut().zip(memory_tables(&rendered.memories)) {
+            *before = after;
+        }
+        left[7].1 = with_spare(rendered.output, spare);
+        left[8].1 = vec![done as u32, words.counts[0] + done as u32 * words.counts[1]];
     }
-    slices.extend(before);
-    Ok(Question { function: Function::StepRun, scalars, slices, number: 0, left })
+    Ok(question)
 }
 
 fn set_question(play: &Play, index: u32, value: u32) -> Result<Question, Skipped> {
