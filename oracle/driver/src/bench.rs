@@ -3,15 +3,17 @@ use std::cell::RefCell;
 use std::hint::black_box;
 use std::time::Instant;
 
+use qcdsp::kernels::KernelTables;
 use qcdsp::tables::Tables;
 use qcdsp::{Block, Processor};
 
 use crate::blocks::{Case, Question};
+use crate::checks::Checked;
 use crate::generate::{plain_block, tanh_block};
 use crate::ours::{Call, Ours};
 use crate::playing::{Play, start, uniform};
 use crate::random::Random;
-use crate::runs::{self, compiled, processor};
+use crate::runs::{self, compiled, expanded, graph_call, processor};
 
 const ROUNDS: usize = 7;
 const ROUND_NANOSECONDS: u64 = 100_000_000;
@@ -71,6 +73,53 @@ pub fn run(ours: &mut Ours) {
     for sections in [2, 20, 1_000] {
         engines(ours, filters(sections));
     }
+    checks(ours, "plain", plain_chain);
+    checks(ours, "keys that collide", colliding_chain);
+    checks(ours, "tanh", |count| tanh_block(count / 36, 16));
+}
+
+/// Every node but the first two reads the one before it and any other.
+fn plain_chain(count: usize) -> Tables {
+    let random = &mut Random::new(1);
+    let mut nodes = vec![0, 0, 0, 1, 0x3f00_0000, 0];
+    for index in 2..count {
+        nodes.extend([7 + random.below(3) as u32, index as u32 - 1, random.below(index) as u32]);
+    }
+    Tables { version: 1, category: 10, output: count as u32 - 1, nodes, ..Tables::default() }
+}
+
+/// Sums of constants whose bits differ in the high half alone: the worst found for an index by the key's bits, lowest first.
+fn colliding_chain(count: usize) -> Tables {
+    let mut nodes = vec![0, 0, 0];
+    for index in (1..count - 1).step_by(2) {
+        nodes.extend([1, (index as u32 / 2 % 0x7f80) << 16, 0, 5, index as u32 - 1, index as u32]);
+    }
+    let output = (nodes.len() / 3 - 1) as u32;
+    Tables { version: 1, category: 10, output, nodes, ..Tables::default() }
+}
+
+const SAMPLES_CHECKED_AGAINST: usize = 1_000;
+
+/// The checker on a compiled block and on one of an eighth of its nodes, and our graph run of 1,000 samples of it.
+fn checks(ours: &mut Ours, name: &str, block: impl Fn(usize) -> Tables) {
+    let took = [8_192, 65_536].map(|count| {
+        let block = block(count);
+        let memories = start(&block);
+        let input = vec![0x3f00_0000; SAMPLES_CHECKED_AGAINST];
+        let play = Play { block, settings: vec![], memories, input, network: vec![], spare: 0, extra: 0 };
+        let kernel = KernelTables::of(&compiled(&play, u16::MAX).expect("a kernel that runs"));
+        let expanded = expanded(&play).expect("a block that runs");
+        let graph = graph_call(&play, &expanded);
+        let check = Checked { play, expanded, mask: 0xffff, kernel }.question();
+        assert!(check.number == 0, "a kernel of the Rust passes");
+        [&check, &graph].map(|asked| (0..3).map(|_| ours.time(asked.call(), 1)).min().unwrap() as f64)
+    });
+    let [[eighth, _], [whole, graph]] = took.map(|times| times.map(|nanoseconds| nanoseconds / 1_000.0));
+    println!(
+        "check, 65,536 nodes, {name:<28} ours {whole:>9.1} us   for 8 times the nodes {:.1} times as long   {:.2} of our graph run of 1,000 samples",
+        whole / eighth,
+        whole / graph
+    );
 }
 
 const SAMPLES: usize = 4_800;
