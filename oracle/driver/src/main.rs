@@ -13,7 +13,6 @@ mod ours;
 mod playing;
 mod random;
 mod refusals;
-mod run_vectors;
 mod runs;
 mod shrink;
 mod spans;
@@ -40,8 +39,7 @@ fn main() {
         ["bench", program] => bench::run(&mut Ours::start(program)),
         ["vectors", "words"] => print!("{}", vectors::words()),
         ["vectors", "blocks"] => print!("{}", vectors::blocks()),
-        ["vectors", "runs"] => print!("{}", run_vectors::runs()),
-        _ => panic!("usage: driver words|blocks|runs|checks OURS SEED COUNT, driver bench OURS, driver vectors words|blocks|runs"),
+        _ => panic!("usage: driver words|blocks|runs|checks OURS SEED COUNT, driver bench OURS, driver vectors words|blocks"),
     }
 }
 
