@@ -26,6 +26,8 @@ pub mod Walked
 -- THE THEOREMS: `compile-passes`, `compile-meets`, `compiled-checks`, `valid-checks`
 pub mod CompilePasses
 pub mod CompiledChecks
+-- with `agree`: `compiled-runs`, `compiled-calls`
+pub mod CompiledRuns
 -- answer 14 exactly: `take-locked`, `run-locked`, `locked-exactly`, `call-locked`; with three usable registers never: `three-never-locked`
 pub mod Locked
 pub mod LockedRun
