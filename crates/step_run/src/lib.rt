@@ -66,7 +66,7 @@ fn shorter(
 }
 
 // The refusals of a call, from the lengths and words of its tables.
-fn judge(
+pub fn judge(
     header: Header,
     parameters: &[u32],
     states: &[u32],
