@@ -15,3 +15,4 @@ pub mod Checked
 pub mod CheckedLaws
 pub mod Ordered
 pub mod OrderedLaws
+pub mod OrderedCalls
