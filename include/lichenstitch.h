@@ -132,6 +132,26 @@ uint32_t lichenstitch_check(uint32_t version, uint32_t category, uint32_t channe
                             size_t instructions_length, uint32_t *expansion, size_t expansion_length, uint32_t *work,
                             size_t work_length, uint32_t *answer, size_t answer_length);
 
+// The checked run, what a host calls with a step list that it was sent: the step checker, and where it passes the list the step run,
+// whose output, memories and cursors are then the graph run's. The caller lends what both take.
+// All tests come before anything is written, and the lowest number wins. Accepted: as the step run says, and work is zeros.
+// Refused: 13, 15 and 16 as for the step run, 13 for a short work table too, and nothing is changed; 19 as the step checker says,
+// and then the expansion is written, work is zeros and nothing is run.
+uint32_t lichenstitch_checked_run(uint32_t version, uint32_t category, uint32_t channels, uint32_t flag, uint32_t last,
+                                  const uint32_t *parameters, size_t parameters_length, const uint32_t *states,
+                                  size_t states_length, const uint32_t *delays, size_t delays_length,
+                                  const uint32_t *nodes, size_t nodes_length, uint32_t mask, uint32_t control_steps,
+                                  uint32_t sample_steps, uint32_t instruction_count, uint32_t control_slots,
+                                  uint32_t spill_slots, const uint32_t *steps, size_t steps_length,
+                                  const uint32_t *instructions, size_t instructions_length, const uint32_t *settings,
+                                  size_t settings_length, const uint32_t *input, size_t input_length,
+                                  const uint32_t *network, size_t network_length, uint32_t budget, uint32_t *registers,
+                                  size_t registers_length, uint32_t *expansion, size_t expansion_length,
+                                  uint32_t *work, size_t work_length, uint32_t *control, size_t control_length,
+                                  uint32_t *spills, size_t spills_length, uint32_t *held, size_t held_length,
+                                  uint32_t *area, size_t area_length, uint32_t *cursors, size_t cursors_length,
+                                  uint32_t *output, size_t output_length, uint32_t *answer, size_t answer_length);
+
 #ifdef __cplusplus
 }
 #endif

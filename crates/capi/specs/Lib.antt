@@ -1,3 +1,4 @@
 -- How answers cross to C.
 pub mod Crossing
 pub mod Runs
+pub mod CheckedRuns

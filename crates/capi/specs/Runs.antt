@@ -119,7 +119,7 @@ unfolding stepCall
 short-crosses b k budget s t lent a c h e f =
     rw (lt-ltb (length (t .registers)) 16 h, f, e)
 
-sixteen-of : (table : List ℕ) → 16 ≤ length table → copied table (zeros 16) ≡ take 16 table
+pub sixteen-of : (table : List ℕ) → 16 ≤ length table → copied table (zeros 16) ≡ take 16 table
 sixteen-of table h =
     copied-is table (zeros 16)
     ∙ (rw (zeros-length 16, drop-of-length-le (zeros 16) {i = length table} (omega (arith, zeros-length 16))) (append-nil (take 16 table)))

@@ -149,7 +149,7 @@ pub extern "C" fn lichenstitch_graph_run(
 }
 
 // Samples done and steps spent, or a refusal.
-fn cross_done(result: Answer, answer: &mut [u32]) -> u32
+pub fn cross_done(result: Answer, answer: &mut [u32]) -> u32
     ensures { λ r. ⌜ crossing r (now (answer .exit)) ≡ doneCrossing (Step.answerOf result) (now (answer .entry)) ⌝ }
 {
     match result {
@@ -159,7 +159,7 @@ fn cross_done(result: Answer, answer: &mut [u32]) -> u32
 }
 
 // The first sixteen words of a table.
-fn sixteen(table: &[u32]) -> [u32; 16]
+pub fn sixteen(table: &[u32]) -> [u32; 16]
     ensures { λ r. ⌜ r ≡ copied (now (table .entry)) (zeros 16) ⌝ }
 {
     let mut words = [0u32; 16];
@@ -168,7 +168,7 @@ fn sixteen(table: &[u32]) -> [u32; 16]
 }
 
 // The answer where the table for the registers has not sixteen words.
-fn short_registers(
+pub fn short_registers(
     head: Header,
     parameters: &[u32],
     states: &[u32],
