@@ -29,3 +29,14 @@ pub mod Canonical
 pub mod RustStores
 pub mod RustTwins
 pub mod RustSame
+-- how the tables hold it: exact words, which no public contract cites
+pub mod Layout
+pub mod Registers
+pub mod Desk
+pub mod DeskLaws
+pub mod Ready
+pub mod Tasks
+pub mod Planned
+pub mod TaskArms
+pub mod TaskReady
+pub mod Links
