@@ -6,15 +6,22 @@ pub mod Hoist
 pub mod Origins
 pub mod Schedule
 pub mod Flow
+-- where the work table holds it
+pub mod Layout
 -- laws of tests and lists
 pub mod TestLaws
 pub mod ListLaws
+pub mod Regions
 -- laws of origins, of reachability, and what a good flow plans
 pub mod OriginLaws
 pub mod Reached
 pub mod Planned
 -- a good graph's flow is good
 pub mod FlowLaws
+-- the words of nodes
+pub mod Words
+-- laws that the code cites, by its files
+pub mod HoistLaws
 -- the Rust's own forms: definitions, and that they give the same plan
 pub mod RustPlan
 pub mod Worklist
