@@ -174,7 +174,7 @@ pub record Sweeping (base : ℕ) (ns : List Node) (down : ℕ → Bool) (marks :
   pub left : sweep ns down i seen ≡ sweep ns down (length marks) marks
 
 -- the loop's invariant: for any flags that the regions hold
-abbrev pub Sweeps : Sizes → List ℕ → ℕ → Bool → List ℕ → ℕ → List ℕ → Type 0
+unfoldable pub Sweeps : Sizes → List ℕ → ℕ → Bool → List ℕ → ℕ → List ℕ → Type 0
 Sweeps sizes nodes base through table i now =
     (marks invariant : List Bool) → length marks ≡ sizes .nodes → length invariant ≡ sizes .nodes → Region base (flags marks) table
     → Region 0 (flags invariant) table
@@ -182,6 +182,7 @@ Sweeps sizes nodes base through table i now =
 
 -- its start
 pub sweep-start : (sizes : Sizes) (nodes : List ℕ) (base : ℕ) (through : Bool) (table : List ℕ) → Sweeps sizes nodes base through table (sizes .nodes) table
+unfolding Sweeps
 sweep-start sizes nodes base through table marks invariant long same region other =
     record { seen = marks; long = refl; held = region-own base (flags marks) table region; left = rw long }
 
@@ -189,7 +190,7 @@ sweep-start sizes nodes base through table marks invariant long same region othe
 pub sweep-next : (sizes : Sizes) (nodes : List ℕ) (base : ℕ) (through : Bool) (table now next : List ℕ) (i j : ℕ) → Lent sizes nodes (length table) → j ≡ suc i → j ≤ sizes .nodes
     → sizes .nodes ≤ base → base ≤ 3 * sizes .nodes
     → Sweeps sizes nodes base through table j now → next ≡ sweptNode base through nodes i now → Sweeps sizes nodes base through table i next
-unfolding sweep
+unfolding sweep Sweeps
 sweep-next sizes nodes base through table now next i j lent e below apart near inv q marks invariant long same region other =
     let s = inv marks invariant long same region other in
     let down : ℕ → Bool = goesDown through (nodesTo nodes (sizes .nodes)) invariant in
@@ -206,7 +207,7 @@ sweep-next sizes nodes base through table now next i j lent e below apart near i
 pub sweep-end : (sizes : Sizes) (nodes : List ℕ) (base : ℕ) (through : Bool) (table now : List ℕ) (i : ℕ) → i ≡ 0 → Sweeps sizes nodes base through table i now
     → (marks invariant : List Bool) → length marks ≡ sizes .nodes → length invariant ≡ sizes .nodes → Region base (flags marks) table → Region 0 (flags invariant) table
     → now ≡ written base (flags (sweep (nodesTo nodes (sizes .nodes)) (goesDown through (nodesTo nodes (sizes .nodes)) invariant) (sizes .nodes) marks)) table
-unfolding sweep
+unfolding sweep Sweeps
 sweep-end sizes nodes base through table now i e inv marks invariant long same region other =
     let s = inv marks invariant long same region other in
     s .held ∙ ap (λ (m : List Bool). written base (flags m) table) (rw (e, long) at (s .left))
@@ -240,3 +241,25 @@ marked-two base nodes i count work e p q = rw (← e) (go count p q)
     go zero p q = absurd (p refl)
     go (suc zero) p q = absurd (q refl)
     go (suc (suc n)) p q = refl
+
+pub descends-always : (through : Bool) (nodes work : List ℕ) (i : ℕ) → through ≡ true → true ≡ descendsIn through nodes work i
+unfolding descendsIn
+descends-always through nodes work i e = rw e
+
+pub descends-unless : (through : Bool) (nodes work : List ℕ) (i : ℕ) (r : Bool) → through ≡ false → r ≡ hoistableIn nodes work i → not r ≡ descendsIn through nodes work i
+unfolding descendsIn
+descends-unless through nodes work i r e q = rw (e, q)
+
+pub swept-unmarked : (base : ℕ) (through : Bool) (nodes : List ℕ) (i : ℕ) (work : List ℕ) → getD work (base + i) 0 ≡ 0 → work ≡ sweptNode base through nodes i work
+unfolding sweptNode
+swept-unmarked base through nodes i work e = rw e
+
+pub swept-down : (base : ℕ) (through : Bool) (nodes : List ℕ) (i : ℕ) (work next : List ℕ) (r : Bool) → (getD work (base + i) 0 ≡ 0 → ⊥)
+    → r ≡ descendsIn through nodes work i → r ≡ true → next ≡ marked base (operandsIn nodes i) work → next ≡ sweptNode base through nodes i work
+unfolding sweptNode
+swept-down base through nodes i work next r p e t q = rw (ne-eqb (getD work (base + i) 0) 0 p, ← e, t) q
+
+pub swept-not : (base : ℕ) (through : Bool) (nodes : List ℕ) (i : ℕ) (work : List ℕ) (r : Bool) → (getD work (base + i) 0 ≡ 0 → ⊥)
+    → r ≡ descendsIn through nodes work i → r ≡ false → work ≡ sweptNode base through nodes i work
+unfolding sweptNode
+swept-not base through nodes i work r p e t = rw (ne-eqb (getD work (base + i) 0) 0 p, ← e, t)

@@ -3,7 +3,7 @@ use mathlib.Core.Path.{_≡_}
 use mathlib.Core.Bool.{cond}
 use mathlib.Core.List.{List}
 use Prim.Native.Nat.{ℕ, _+_, _*_, _≤_, _<_}
-use lib.ListN.{length}
+use lib.ListN.{length, getD}
 use lib.Dec.{eqb}
 use Rattle.block.specs.Block.{code, first, second}
 use Rattle.block.specs.Validation.{Counts}
@@ -83,3 +83,7 @@ pub record Lent (sizes : Sizes) (nodes : List ℕ) (words : ℕ) : Type 0 where
   pub states : sizes .states ≤ 4096
   pub delays : sizes .delays ≤ 4096
   pub room : 18 * sizes .nodes + 5 * sizes .states + 5 * sizes .delays + 262 ≤ words
+
+-- each update of a table is 0, or a node's number and one
+abbrev pub Updates : Sizes → List ℕ → Type 0
+Updates sizes updates = (i : ℕ) → getD updates i 0 ≤ sizes .nodes

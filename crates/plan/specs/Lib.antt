@@ -22,6 +22,8 @@ pub mod FlowLaws
 pub mod Words
 -- laws that the code cites, by its files
 pub mod HoistLaws
+pub mod RootLaws
+pub mod ControlLaws
 -- the Rust's own forms: definitions, and that they give the same plan
 pub mod RustPlan
 pub mod Worklist

@@ -3,12 +3,13 @@ use crate::Sizes;
 use block::kinds;
 ghost use mathlib.Core.Path.{_≡_};
 ghost use mathlib.Core.Bool.{Bool};
-ghost use mathlib.Core.List.{List, []};
-ghost use Prim.Native.Nat.{_*_, _≤_, _<_};
+ghost use mathlib.Core.List.{List, [], _∷_, _++_};
+ghost use Prim.Native.Nat.{_+_, _*_, _≤_, _<_};
 ghost use lib.ListN.{length, getD};
 ghost use Rattle.block.specs.Block.{code, first, second};
+ghost use Rattle.plan.specs.Nodes.{updatesOf};
 ghost use Rattle.plan.specs.Hoist as Hoist;
-ghost use Rattle.plan.specs.Layout.{Lent};
+ghost use Rattle.plan.specs.Layout.{Lent, Updates};
 ghost use Rattle.plan.specs.Regions.{written, flags, Region};
 ghost use Rattle.plan.specs.Words.{nodesTo, operandCount, operandsIn, invariantWord, hoistableIn, marked, descendsIn, goesDown, sweptNode};
 
@@ -125,4 +126,40 @@ pub fn sweep(nodes: &[u32], work: &mut [u32], sizes: Sizes, base: usize, through
         i -= 1;
         sweep_node(nodes, work, sizes, base, through, i);
     }
+}
+
+// One update's node is marked, if there is one.
+fn mark_update(update: u32, work: &mut [u32], base: usize)
+    requires { ⌜ base + update ≤ length (now work) ⌝ }
+    ensures { λ _. ⌜ now (work .exit) ≡ marked base (updatesOf (update ∷ [])) (now (work .entry)) ⌝ }
+{
+    if update == 0 {
+        return;
+    }
+    let node = (update - 1) as usize;
+    work[base + node] = 1;
+}
+
+// The nodes that a table of updates names are marked.
+fn mark_updates(updates: &[u32], work: &mut [u32], sizes: Sizes, base: usize)
+    requires { ⌜ Updates sizes (now updates) × (base + sizes .nodes ≤ length (now work)) ⌝ }
+    ensures { λ _. ⌜ now (work .exit) ≡ marked base (updatesOf (now (updates .entry))) (now (work .entry)) ⌝ }
+{
+    let count = updates.len();
+    let mut i: usize = 0;
+    while i < count {
+        mark_update(updates[i], work, base);
+        i += 1;
+    }
+}
+
+// The output and every update are marked as needed (graph.rs, `Block::roots`).
+pub fn mark_roots(updates: &[u32], stores: &[u32], output: usize, work: &mut [u32], sizes: Sizes)
+    requires { ⌜ Updates sizes (now updates) × Updates sizes (now stores) × (output < sizes .nodes) × (2 * sizes .nodes ≤ length (now work)) ⌝ }
+    ensures { λ _. ⌜ now (work .exit) ≡ marked (sizes .nodes) (output ∷ (updatesOf (now (updates .entry)) ++ updatesOf (now (stores .entry)))) (now (work .entry)) ⌝ }
+{
+    let base = sizes.nodes;
+    work[base + output] = 1;
+    mark_updates(updates, work, sizes, base);
+    mark_updates(stores, work, sizes, base);
 }

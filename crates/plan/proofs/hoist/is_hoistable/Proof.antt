@@ -1,29 +1,23 @@
+-- `is_hoistable`: both ways out. Assumes nothing.
+use Rattle.plan.specs.HoistLaws.{hoistable-yes, hoistable-no}
 use borrow.Author.Needs.{needs}
 use Rattle.plan.proofs.hoist.is_hoistable.Statement.{statement}
 use Rattle.plan.proofs.hoist.is_hoistable.Tie as tie
-use Rattle.plan.proofs.hoist.is_hoistable.Reads as reads
-use Rattle.plan.proofs.hoist.is_hoistable.Lts as lts
-use Rattle.plan.proofs.hoist.operand_count.Reads as operand-count-reads
 
--- src/hoist.rt:69:8
 mul-if1 : tie.Need-mul-if1
 mul-if1 c = search needs
 
--- src/hoist.rt:69:8
 shared-slice-read-if1 : tie.Need-shared-slice-read-if1
 shared-slice-read-if1 c = search needs
 
--- src/hoist.rt:70:20
 operand-count-requires : tie.Need-operand-count-requires
 operand-count-requires c κs = search needs
 
--- src/hoist.rt:70:9
 returns : tie.Need-returns
-returns c = ?
+returns c = hoistable-yes _ _ _ _ (c .before .if1 .taken) (c .operand-count .ensures)
 
--- src/hoist.rt:65:1
 returns-2 : tie.Need-returns-2
-returns-2 c = ?
+returns-2 c = hoistable-no _ _ _ (c .if1 .left)
 
 pub is-hoistable-spec : {M : Type 1} → statement M
 is-hoistable-spec =
