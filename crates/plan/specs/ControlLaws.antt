@@ -97,7 +97,7 @@ number-snoc k (false ∷ marks) b = ap (λ (l : List ℕ). 0 ∷ l) (number-snoc
 count-append : (xs ys : List ℕ) → count (xs ++ ys) ≡ count xs + count ys
 count-append [] ys = omega arith
 count-append (zero ∷ xs) ys = count-append xs ys
-count-append (suc x ∷ xs) ys = ap suc (count-append xs ys)
+count-append (suc x ∷ xs) ys = omega (arith, count-append xs ys)
 
 count-most : (xs : List ℕ) → count xs ≤ length xs
 count-most [] = omega arith
@@ -129,7 +129,8 @@ numbered-push : (n i : ℕ) (homes : List Bool) (b : Bool) (table : List ℕ) �
 numbered-push n i homes b table long below =
     let l : length (number 0 homes) ≡ i = number-length 0 homes ∙ long in
     let f : length (flags homes) ≡ i = flags-length homes ∙ long in
-    let s : number 0 (homes ++ (b ∷ [])) ≡ number 0 homes ++ (cond b (count (number 0 homes) + 1) 0 ∷ []) = number-snoc 0 homes b in
+    let s : number 0 (homes ++ (b ∷ [])) ≡ number 0 homes ++ (cond b (count (number 0 homes) + 1) 0 ∷ []) =
+    let z : 0 + count (number 0 homes) ≡ count (number 0 homes) = omega arith in rw z at (number-snoc 0 homes b) in
     rw
     (set-beside (3 * n) (flags homes) (written (2 * n) (number 0 homes) table) (2 * n + i) (cond b (count (number 0 homes) + 1) 0) (inl (omega arith)),
     written-push (2 * n) (number 0 homes) table (2 * n + i) (cond b (count (number 0 homes) + 1) 0) (omega arith),
@@ -204,3 +205,137 @@ pub numbers-end : (sizes : Sizes) (nodes table now : List ℕ) (slots i : ℕ) �
 unfolding Numbers homesOf
 numbers-end sizes nodes table now slots i e inv invariant needed long same region other =
     rw (nodes-length nodes (sizes .nodes)) (rw e at (inv invariant needed long same region other))
+
+-- slots are no more than nodes
+pub numbers-few : (b : Bool) (slots more i : ℕ) → slots ≤ i → more ≡ cond b (slots + 1) slots → more ≤ i + 1
+numbers-few true slots more i h e = omega arith
+numbers-few false slots more i h e = omega arith
+
+-- the ways out of `number_slot`
+module _ (n : ℕ) (nodes work : List ℕ) (i slots : ℕ) (r : Bool) (e : r ≡ homeIn n nodes work i) where
+  pub slot-given : r ≡ true
+      → (slots + 1 ≡ cond (homeIn n nodes work i) (slots + 1) slots)
+      × (set (set work (2 * n + i) (slots + 1)) (3 * n + i) 1
+      ≡ set (set work (2 * n + i) (cond (homeIn n nodes work i) (slots + 1) 0)) (3 * n + i) (flag (homeIn n nodes work i)))
+  slot-given h = rw (← e, h) (refl, refl)
+
+  pub slot-none : r ≡ false
+      → (slots ≡ cond (homeIn n nodes work i) (slots + 1) slots)
+      × (set (set work (2 * n + i) 0) (3 * n + i) 0
+      ≡ set (set work (2 * n + i) (cond (homeIn n nodes work i) (slots + 1) 0)) (3 * n + i) (flag (homeIn n nodes work i)))
+  slot-none h = rw (← e, h) (refl, refl)
+
+-- ---- `control_tasks`
+
+-- Generic: those that pass of a list with one more
+pub filter-snoc : {A : Type 0} (p : A → Bool) (xs : List A) (x : A) → filter p (xs ++ (x ∷ [])) ≡ filter p xs ++ cond (p x) (x ∷ []) []
+filter-snoc p [] x = refl
+filter-snoc p (y ∷ xs) x = go (p y) (filter-snoc p xs x)
+  where
+    go : (b : Bool) → filter p (xs ++ (x ∷ [])) ≡ filter p xs ++ cond (p x) (x ∷ []) []
+        → cond b (y ∷ filter p (xs ++ (x ∷ []))) (filter p (xs ++ (x ∷ []))) ≡ cond b (y ∷ filter p xs) (filter p xs) ++ cond (p x) (x ∷ []) []
+    go true ih = ap (λ l. y ∷ l) ih
+    go false ih = ih
+
+-- Generic: f of two lists, one behind the other
+pub map-append : {A B : Type 0} (f : A → B) (xs ys : List A) → map f (xs ++ ys) ≡ map f xs ++ map f ys
+map-append f [] ys = refl
+map-append f (x ∷ xs) ys = ap (λ l. f x ∷ l) (map-append f xs ys)
+
+tasks-append : (slots xs ys : List ℕ) → controlTasks slots (xs ++ ys) ≡ controlTasks slots xs ++ controlTasks slots ys
+tasks-append slots [] ys = refl
+tasks-append slots (x ∷ xs) ys =
+    ap (λ (l : List Task). controlTask x (getD slots x 0) ++ l) (tasks-append slots xs ys) ∙ sym (append-assoc (controlTask x (getD slots x 0)) (controlTasks slots xs) (controlTasks slots ys))
+
+-- what the control phase computes of the first i nodes
+abbrev pub computesTo : List Node → List Bool → ℕ → List ℕ
+computesTo ns reached i = filter (λ n. getD reached n false && isComputed (nodeAt ns n)) (countUp 0 i)
+
+computes-next : (ns : List Node) (reached : List Bool) (i : ℕ)
+    → computesTo ns reached (i + 1) ≡ computesTo ns reached i ++ cond (getD reached i false && isComputed (nodeAt ns i)) (i ∷ []) []
+computes-next ns reached i =
+    let z : i + 1 ≡ suc i = omega arith in
+    let y : 0 + i ≡ i = omega arith in
+    let p : ℕ → Bool = λ n. getD reached n false && isComputed (nodeAt ns n) in
+    rw z (ap (filter p) (rw y at (count-up-snoc 0 i)) ∙ filter-snoc p (countUp 0 i) i)
+
+-- a node's words are its tasks'
+control-words : (sizes : Sizes) (nodes work slots : List ℕ) (reached : List Bool) (i : ℕ) (c : Bool) → computedIn nodes i ≡ c
+    → getD work (3 * sizes .nodes + i) 0 ≡ flag (getD reached i false) → getD work (2 * sizes .nodes + i) 0 ≡ getD slots i 0
+    → controlIn (sizes .nodes) nodes work i ≡ map (taskWord sizes) (controlTasks slots (cond (getD reached i false && c) (i ∷ []) []))
+unfolding controlIn controlsIn taskWord
+control-words sizes nodes work slots reached i c q m s =
+    rw (m, flag-test (getD reached i false), q, s) (go (getD reached i false) c (getD slots i 0) refl)
+  where
+    go : (a b : Bool) (slot : ℕ) → getD slots i 0 ≡ slot
+        → cond (cond a b false) (cond (eqb slot 0) (i ∷ []) (i ∷ (sizes .nodes + i) ∷ [])) []
+        ≡ map (taskWord sizes) (controlTasks slots (cond (a && b) (i ∷ []) []))
+    go false b slot e = refl
+    go true false slot e = refl
+    go true true zero e = rw e
+    go true true (suc slot) e = rw (e, ne-eqb (suc slot) 0 (λ (q : suc slot ≡ 0). omega arith))
+
+-- a node has two tasks at most
+pub control-most : (n : ℕ) (nodes work : List ℕ) (i : ℕ) → length (controlIn n nodes work i) ≤ 2
+unfolding controlIn
+control-most n nodes work i = go (controlsIn n nodes work i) (eqb (getD work (2 * n + i) 0) 0)
+  where
+    go : (a b : Bool) → length (cond a (cond b (i ∷ []) (i ∷ (n + i) ∷ [])) []) ≤ 2
+    go false b = omega arith
+    go true true = omega arith
+    go true false = omega arith
+
+-- the loop's invariant: for any slots and flags that the regions hold
+unfoldable pub Controls : Sizes → List ℕ → List ℕ → List ℕ → ℕ → ℕ → Type 0
+Controls sizes nodes table now tasks i =
+    (slots : List ℕ) (reached : List Bool) → length slots ≡ sizes .nodes → length reached ≡ sizes .nodes → Region (2 * sizes .nodes) slots table
+    → Region (3 * sizes .nodes) (flags reached) table
+    → (tasks ≡ length (controlTasks slots (computesTo (nodesTo nodes (sizes .nodes)) reached i)))
+    × (now ≡ written (11 * sizes .nodes) (map (taskWord sizes) (controlTasks slots (computesTo (nodesTo nodes (sizes .nodes)) reached i))) table)
+
+pub controls-start : (sizes : Sizes) (nodes table : List ℕ) → Controls sizes nodes table table 0 0
+unfolding Controls
+controls-start sizes nodes table slots reached long same region other = (refl, sym (written-none (11 * sizes .nodes) table))
+
+-- its turn
+pub controls-next : (sizes : Sizes) (nodes table now next : List ℕ) (tasks more i : ℕ) → Lent sizes nodes (length table) → i < sizes .nodes
+    → Controls sizes nodes table now tasks i
+    → (more ≡ tasks + length (controlIn (sizes .nodes) nodes now i)) × (next ≡ written (11 * sizes .nodes + tasks) (controlIn (sizes .nodes) nodes now i) now)
+    → Controls sizes nodes table next more (i + 1)
+unfolding Controls
+controls-next sizes nodes table now next tasks more i lent below inv q slots reached long same region other =
+    let n : ℕ = sizes .nodes in
+    let ns : List Node = nodesTo nodes n in
+    let s = inv slots reached long same region other in
+    let done : List Task = controlTasks slots (computesTo ns reached i) in
+    let words : List ℕ = map (taskWord sizes) done in
+    let d : length (flags reached) ≡ n = flags-length reached ∙ same in
+    let wl : length words ≡ tasks = length-map done (taskWord sizes) ∙ sym (s .0) in
+    let out : (j : ℕ) → j < 11 * n → getD now j 0 ≡ getD table j 0 =
+    λ j h. ap (λ (t : List ℕ). getD t j 0) (s .1) ∙ written-out (11 * n) words table j (inl (omega arith)) in
+    let m : getD now (3 * n + i) 0 ≡ flag (getD reached i false) =
+    out (3 * n + i) (omega arith) ∙ (region-at (3 * n) (flags reached) table (3 * n + i) i other refl (omega arith) ∙ flags-at reached i) in
+    let k : getD now (2 * n + i) 0 ≡ getD slots i 0 = out (2 * n + i) (omega arith) ∙ region-at (2 * n) slots table (2 * n + i) i region refl (omega arith) in
+    let added : List ℕ = cond (getD reached i false && computedIn nodes i) (i ∷ []) [] in
+    let w : controlIn n nodes now i ≡ map (taskWord sizes) (controlTasks slots added) = control-words sizes nodes now slots reached i (computedIn nodes i) refl m k in
+    let e : computesTo ns reached (i + 1) ≡ computesTo ns reached i ++ added =
+    rw (node-at nodes n i below, computed-in sizes nodes (length table) lent i below) at (computes-next ns reached i) in
+    let t : controlTasks slots (computesTo ns reached (i + 1)) ≡ done ++ controlTasks slots added =
+    ap (controlTasks slots) e ∙ tasks-append slots (computesTo ns reached i) added in
+    rw t
+    (q .0 ∙ (ap (λ (x : ℕ). tasks + x) (ap length w ∙ length-map (controlTasks slots added) (taskWord sizes))
+    ∙ (ap (λ (x : ℕ). x + length (controlTasks slots added)) (s .0) ∙ sym (length-append done (controlTasks slots added)))),
+    q .1 ∙ (ap (λ (x : List ℕ). written (11 * n + tasks) x now) w
+    ∙ (ap (written (11 * n + tasks) (map (taskWord sizes) (controlTasks slots added))) (s .1)
+    ∙ (written-join (11 * n) words (map (taskWord sizes) (controlTasks slots added)) table (11 * n + tasks) (omega arith)
+    ∙ ap (λ (x : List ℕ). written (11 * n) x table) (sym (map-append (taskWord sizes) done (controlTasks slots added)))))))
+
+-- its end
+pub controls-end : (sizes : Sizes) (nodes table now : List ℕ) (tasks i : ℕ) → i ≡ sizes .nodes → Controls sizes nodes table now tasks i
+    → (slots : List ℕ) (reached : List Bool) → length slots ≡ sizes .nodes → length reached ≡ sizes .nodes → Region (2 * sizes .nodes) slots table
+    → Region (3 * sizes .nodes) (flags reached) table
+    → (tasks ≡ length (controlTasks slots (controlComputations (nodesTo nodes (sizes .nodes)) reached)))
+    × (now ≡ written (11 * sizes .nodes) (map (taskWord sizes) (controlTasks slots (controlComputations (nodesTo nodes (sizes .nodes)) reached))) table)
+unfolding Controls controlComputations
+controls-end sizes nodes table now tasks i e inv slots reached long same region other =
+    rw (nodes-length nodes (sizes .nodes)) (rw e at (inv slots reached long same region other))

@@ -88,6 +88,17 @@ written-swap base words other (w ∷ others) table (inr h) =
     written-swap base words (suc other) others (set table other w) (inr (omega arith))
     ∙ ap (λ (x : List ℕ). sets x (suc other) others) (sym (set-beside base words table other w (inl (omega arith))))
 
+-- written over by as many words
+pub written-again : (base : ℕ) (words before table : List ℕ) → length words ≡ length before → written base words (written base before table) ≡ written base words table
+unfolding written
+written-again base [] [] table e = refl
+written-again base [] (v ∷ before) table e = absurd (omega arith)
+written-again base (w ∷ words) [] table e = absurd (omega arith)
+written-again base (w ∷ words) (v ∷ before) table e =
+    ap (λ (x : List ℕ). sets x (suc base) words) (set-before (set table base v) (suc base) base w before (omega arith))
+    ∙ (written-again (suc base) words before (set (set table base v) base w) (omega arith)
+    ∙ ap (λ (x : List ℕ). sets x (suc base) words) (set-set table base v w))
+
 -- ---- what a region holds
 
 -- the table has these words from `base` on

@@ -4,9 +4,36 @@
 pub mod control;
 pub mod hoist;
 
+ghost use mathlib.Core.Path.{_≡_};
+ghost use Prim.Native.Nat.{_<_};
+ghost use lib.ListN.{length};
+ghost use Rattle.plan.specs.Layout.{Lent, Updates};
+ghost use Rattle.plan.specs.ControlShare.{flowIn, controlCount, controlTable, Cleared};
+
 // How many nodes, states and delays an expanded block has.
 pub struct Sizes {
     pub nodes: usize,
     pub states: usize,
     pub delays: usize,
+}
+
+// How many control slots the hoisted values have, and how many tasks the control phase.
+pub struct Hoisted {
+    pub slots: u32,
+    pub tasks: usize,
+}
+
+// The control phase's share of the plan: what is hoisted, what each phase reaches, the control slots and the control tasks.
+pub fn plan_control(nodes: &[u32], updates: &[u32], stores: &[u32], output: usize, work: &mut [u32], sizes: Sizes) -> Hoisted
+    requires { ⌜ Lent sizes (now nodes) (length (now work)) × Updates sizes (now updates) × Updates sizes (now stores) × (output < sizes .nodes) × Cleared sizes (now work) ⌝ }
+    ensures { λ r. ⌜ (r ≡ controlCount (flowIn sizes (now (nodes .entry)) (now (updates .entry)) (now (stores .entry)) output)) × (now (work .exit) ≡ controlTable sizes (flowIn sizes (now (nodes .entry)) (now (updates .entry)) (now (stores .entry)) output) (now (work .entry))) ⌝ }
+{
+    let count = sizes.nodes;
+    hoist::invariance(nodes, work, sizes);
+    hoist::mark_roots(updates, stores, output, work, sizes);
+    hoist::sweep(nodes, work, sizes, count, false);
+    let slots = control::number_slots(nodes, work, sizes);
+    hoist::sweep(nodes, work, sizes, 3 * count, true);
+    let tasks = control::control_tasks(nodes, work, sizes);
+    Hoisted { slots, tasks }
 }

@@ -1,43 +1,39 @@
+-- `control_tasks`: before turn i the tasks of the first i nodes stand written. Assumes nothing.
+use mathlib.Core.Path.{_≡_, refl}
+use Prim.Native.Nat.{_-_, _≤_, _*_}
+use native.Mathlib.Omega.{arith}
+use lib.ListN.{length}
+use Rattle.plan.specs.ControlLaws.{Controls, controls-start, control-most, controls-next, controls-end}
 use borrow.Author.Needs.{needs}
 use Rattle.plan.proofs.control.control_tasks.Statement.{statement}
 use Rattle.plan.proofs.control.control_tasks.Tie as tie
-use Rattle.plan.proofs.control.control_tasks.Reads as reads
-use Rattle.plan.proofs.control.control_tasks.Lts as lts
-use Rattle.plan.proofs.control.push_control.Reads as push-control-reads
 
 abbrev Inv-loop : tie.InvT-loop
-Inv-loop nodes work₀ sizes count tasks₀ i₀ work tasks i = ?
+Inv-loop nodes work₀ sizes count tasks₀ i₀ work tasks i = (i ≤ count) × (length work ≡ length work₀) × (tasks ≤ 2 * i) × Controls sizes nodes work₀ work tasks i
 
 abbrev μ-loop : tie.MeasureT-loop
-μ-loop nodes work₀ sizes count tasks₀ i₀ work tasks i = ?
+μ-loop nodes work₀ sizes count tasks₀ i₀ work tasks i = count - i
 
--- src/control.rt:101:5
 loop-holds : tie.Need-loop-holds Inv-loop μ-loop
-loop-holds c = ?
+loop-holds c = (omega arith, refl, omega arith, controls-start _ _ _)
 
--- src/control.rt:102:9
 push-control-requires : tie.Need-push-control-requires Inv-loop μ-loop
-push-control-requires c κs = search needs
+push-control-requires c κs = (rw (c .before .before .loop .inv .1) (c .before .before .before .before .before .pre), c .before .loop-test .taken, c .before .before .loop .inv .2)
 
--- src/control.rt:103:9
 add-i : tie.Need-add-i Inv-loop μ-loop
 add-i c = search needs
 
--- src/control.rt:101:5
 loop-less : tie.Need-loop-less Inv-loop μ-loop
 loop-less c = search needs
 
--- src/control.rt:101:5
 loop-again : tie.Need-loop-again Inv-loop μ-loop
-loop-again c = ?
+loop-again c = (omega (arith, c .before .before .before .before .loop-test .taken), omega (arith, c .before .before .before .before .before .loop .inv .1), omega (arith, c .before .before .before .before .before .loop .inv .2, c .before .before .push-control .ensures .0, control-most (c .before .before .before .before .before .before .before .before .args .sizes .nodes) (c .before .before .before .before .before .before .before .before .args .nodes .now) (c .before .before .before .before .before .loop .work) (c .before .before .before .before .before .loop .i)), controls-next _ _ _ _ _ _ _ _ (c .before .before .before .before .before .before .before .before .pre) (c .before .before .before .before .loop-test .taken) (c .before .before .before .before .before .loop .inv .3) (c .before .before .push-control .ensures))
 
--- src/control.rt:94:1
 same-length : tie.Need-same-length Inv-loop μ-loop
-same-length c = search needs
+same-length c = c .before .loop .inv .1
 
--- src/control.rt:94:1
 returns : tie.Need-returns Inv-loop μ-loop
-returns c = ?
+returns c = controls-end _ _ _ _ _ (c .before .loop .i) (omega (arith, c .before .loop .inv .0, c .loop-test .left)) (c .before .loop .inv .3)
 
 pub control-tasks-spec : {M : Type 1} → statement M
 control-tasks-spec =

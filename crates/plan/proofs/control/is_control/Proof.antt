@@ -1,37 +1,29 @@
+-- `is_control`: both ways out. Assumes nothing.
+use Rattle.plan.specs.ControlLaws.{controls-yes, controls-no}
 use borrow.Author.Needs.{needs}
 use Rattle.plan.proofs.control.is_control.Statement.{statement}
 use Rattle.plan.proofs.control.is_control.Tie as tie
-use Rattle.plan.proofs.control.is_control.Reads as reads
-use Rattle.plan.proofs.control.is_control.Lts as lts
-use Rattle.plan.proofs.hoist.operand_count.Reads as operand-count-reads
 
--- src/control.rt:66:13
 mul-if1 : tie.Need-mul-if1
 mul-if1 c = search needs
 
--- src/control.rt:66:13
 add-if1 : tie.Need-add-if1
 add-if1 c = search needs
 
--- src/control.rt:66:8
 mul-if1-2 : tie.Need-mul-if1-2
 mul-if1-2 c = search needs
 
--- src/control.rt:66:8
 shared-slice-read-if1 : tie.Need-shared-slice-read-if1
 shared-slice-read-if1 c = search needs
 
--- src/control.rt:67:20
 operand-count-requires : tie.Need-operand-count-requires
 operand-count-requires c κs = search needs
 
--- src/control.rt:67:9
 returns : tie.Need-returns
-returns c = ?
+returns c = controls-yes _ _ _ _ _ (c .before .if1 .taken) (c .operand-count .ensures)
 
--- src/control.rt:61:1
 returns-2 : tie.Need-returns-2
-returns-2 c = ?
+returns-2 c = controls-no _ _ _ _ (c .if1 .left)
 
 pub is-control-spec : {M : Type 1} → statement M
 is-control-spec =

@@ -1,33 +1,26 @@
+-- `is_home`: both ways out. Assumes nothing.
+use Rattle.plan.specs.ControlLaws.{home-yes, home-no}
 use borrow.Author.Needs.{needs}
 use Rattle.plan.proofs.control.is_home.Statement.{statement}
 use Rattle.plan.proofs.control.is_home.Tie as tie
-use Rattle.plan.proofs.control.is_home.Reads as reads
-use Rattle.plan.proofs.control.is_home.Lts as lts
-use Rattle.plan.proofs.hoist.is_hoistable.Reads as is-hoistable-reads
 
--- src/control.rt:23:13
 add-if1 : tie.Need-add-if1
 add-if1 c = search needs
 
--- src/control.rt:23:8
 mul-if1 : tie.Need-mul-if1
 mul-if1 c = search needs
 
--- src/control.rt:23:8
 shared-slice-read-if1 : tie.Need-shared-slice-read-if1
 shared-slice-read-if1 c = search needs
 
--- src/control.rt:24:9
 is-hoistable-requires : tie.Need-is-hoistable-requires
 is-hoistable-requires c κs = search needs
 
--- src/control.rt:24:9
 returns : tie.Need-returns
-returns c = ?
+returns c = home-yes _ _ _ _ _ (c .before .if1 .taken) (c .is-hoistable .ensures)
 
--- src/control.rt:18:1
 returns-2 : tie.Need-returns-2
-returns-2 c = ?
+returns-2 c = home-no _ _ _ _ (c .if1 .left)
 
 pub is-home-spec : {M : Type 1} → statement M
 is-home-spec =
