@@ -2,6 +2,7 @@
 use mathlib.Core.Path.{ap, _∙_}
 use native.Mathlib.Omega.{arith}
 use lib.ListN.{length, length-set}
+use Rattle.plan.specs.Nodes.{updatesOf}
 use Rattle.plan.specs.HoistLaws.{marked-length}
 use Rattle.plan.specs.RootLaws.{roots-all}
 use borrow.Author.Needs.{needs}
@@ -27,7 +28,7 @@ same-length : tie.Need-same-length
 same-length c = (simp marked-length at (ap length (c .before .before .mark-updates2 .ensures))) ∙ (simp (marked-length, length-set) at (ap length (c .before .before .before .before .before .before .mark-updates .ensures)))
 
 returns : tie.Need-returns
-returns c = roots-all _ _ _ _ _ _ _ (c .before .before .before .before .before .before .mark-updates .ensures) (c .before .before .mark-updates2 .ensures)
+returns c = roots-all (c .before .before .before .before .before .before .before .before .before .before .before .args .sizes .nodes) (c .before .before .before .before .before .before .before .before .before .before .before .args .output) (updatesOf (c .before .before .before .before .before .before .before .before .before .before .before .args .updates .now)) (updatesOf (c .before .before .before .before .before .before .before .before .before .before .before .args .stores .now)) (c .before .before .before .before .before .before .before .before .before .before .before .args .work .now) _ _ (c .before .before .before .before .before .before .mark-updates .ensures) (c .before .before .mark-updates2 .ensures)
 
 pub mark-roots-spec : {M : Type 1} → statement M
 mark-roots-spec =
