@@ -131,11 +131,12 @@ numbered-push n i homes b table long below =
     let f : length (flags homes) ≡ i = flags-length homes ∙ long in
     let s : number 0 (homes ++ (b ∷ [])) ≡ number 0 homes ++ (cond b (count (number 0 homes) + 1) 0 ∷ []) =
     let z : 0 + count (number 0 homes) ≡ count (number 0 homes) = omega arith in rw z at (number-snoc 0 homes b) in
-    rw
-    (set-beside (3 * n) (flags homes) (written (2 * n) (number 0 homes) table) (2 * n + i) (cond b (count (number 0 homes) + 1) 0) (inl (omega arith)),
-    written-push (2 * n) (number 0 homes) table (2 * n + i) (cond b (count (number 0 homes) + 1) 0) (omega arith),
-    ← s,
-    flags-append homes (b ∷ []))
+    rw (
+      set-beside (3 * n) (flags homes) (written (2 * n) (number 0 homes) table) (2 * n + i) (cond b (count (number 0 homes) + 1) 0) (inl (omega arith)),
+      written-push (2 * n) (number 0 homes) table (2 * n + i) (cond b (count (number 0 homes) + 1) 0) (omega arith),
+      ← s,
+      flags-append homes (b ∷ []),
+    )
     (written-push (3 * n) (flags homes) (written (2 * n) (number 0 (homes ++ (b ∷ []))) table) (3 * n + i) (flag b) (omega arith))
 
 -- the loop's invariant: for any flags that the regions hold
@@ -179,9 +180,10 @@ numbers-next sizes nodes table now next slots more i lent below inv q invariant 
     rw (m, flag-test (getD needed i false), hoistable-in sizes nodes (length table) lent invariant now i below v) (arms (getD needed i false) (hoistable ns invariant i)) in
     let b : Bool = getD needed i false && hoistable ns invariant i in
     let e : homesTo ns invariant needed (i + 1) ≡ homes ++ (b ∷ []) = homes-next ns invariant needed i in
-    rw e
-    ((rw (h, s .0) at (q .0)) ∙ totals homes b,
-    (rw (h, s .0, s .1) at (q .1)) ∙ numbered-push n i homes b table hl below)
+    rw e (
+      (rw (h, s .0) at (q .0)) ∙ totals homes b,
+      (rw (h, s .0, s .1) at (q .1)) ∙ numbered-push n i homes b table hl below,
+    )
   where
     arms : (x y : Bool) → cond x y false ≡ (x && y)
     arms true y = refl
@@ -322,13 +324,14 @@ controls-next sizes nodes table now next tasks more i lent below inv q slots rea
     rw (node-at nodes n i below, computed-in sizes nodes (length table) lent i below) at (computes-next ns reached i) in
     let t : controlTasks slots (computesTo ns reached (i + 1)) ≡ done ++ controlTasks slots added =
     ap (controlTasks slots) e ∙ tasks-append slots (computesTo ns reached i) added in
-    rw t
-    (q .0 ∙ (ap (λ (x : ℕ). tasks + x) (ap length w ∙ length-map (controlTasks slots added) (taskWord sizes))
-    ∙ (ap (λ (x : ℕ). x + length (controlTasks slots added)) (s .0) ∙ sym (length-append done (controlTasks slots added)))),
-    q .1 ∙ (ap (λ (x : List ℕ). written (11 * n + tasks) x now) w
-    ∙ (ap (written (11 * n + tasks) (map (taskWord sizes) (controlTasks slots added))) (s .1)
-    ∙ (written-join (11 * n) words (map (taskWord sizes) (controlTasks slots added)) table (11 * n + tasks) (omega arith)
-    ∙ ap (λ (x : List ℕ). written (11 * n) x table) (sym (map-append (taskWord sizes) done (controlTasks slots added)))))))
+    rw t (
+      q .0 ∙ (ap (λ (x : ℕ). tasks + x) (ap length w ∙ length-map (controlTasks slots added) (taskWord sizes))
+          ∙ (ap (λ (x : ℕ). x + length (controlTasks slots added)) (s .0) ∙ sym (length-append done (controlTasks slots added)))),
+      q .1 ∙ (ap (λ (x : List ℕ). written (11 * n + tasks) x now) w
+          ∙ (ap (written (11 * n + tasks) (map (taskWord sizes) (controlTasks slots added))) (s .1)
+          ∙ (written-join (11 * n) words (map (taskWord sizes) (controlTasks slots added)) table (11 * n + tasks) (omega arith)
+          ∙ ap (λ (x : List ℕ). written (11 * n) x table) (sym (map-append (taskWord sizes) done (controlTasks slots added)))))),
+    )
 
 -- its end
 pub controls-end : (sizes : Sizes) (nodes table now : List ℕ) (tasks i : ℕ) → i ≡ sizes .nodes → Controls sizes nodes table now tasks i

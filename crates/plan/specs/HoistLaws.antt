@@ -199,7 +199,7 @@ sweep-next sizes nodes base through table now next i j lent e below apart near i
       seen = markAll list (s .seen);
       long = length-markAll list (s .seen) ∙ s .long;
       held =
-      q ∙ swept-node sizes nodes (length table) lent base through (s .seen) invariant table now i (omega arith) apart (s .long ∙ long) same (omega (arith, lent .room)) other (s .held);
+          q ∙ swept-node sizes nodes (length table) lent base through (s .seen) invariant table now i (omega arith) apart (s .long ∙ long) same (omega (arith, lent .room)) other (s .held);
       left = rw e at (s .left);
     }
 

@@ -24,7 +24,14 @@ pub struct Hoisted {
 }
 
 // The control phase's share of the plan: what is hoisted, what each phase reaches, the control slots and the control tasks.
-pub fn plan_control(nodes: &[u32], updates: &[u32], stores: &[u32], output: usize, work: &mut [u32], sizes: Sizes) -> Hoisted
+pub fn plan_control(
+    nodes: &[u32],
+    updates: &[u32],
+    stores: &[u32],
+    output: usize,
+    work: &mut [u32],
+    sizes: Sizes,
+) -> Hoisted
     requires { ⌜ Lent sizes (now nodes) (length (now work)) × Updates sizes (now updates) × Updates sizes (now stores) × (output < sizes .nodes) × Cleared sizes (now work) ⌝ }
     ensures { λ r. ⌜ (r ≡ controlCount (flowIn sizes (now (nodes .entry)) (now (updates .entry)) (now (stores .entry)) output)) × (now (work .exit) ≡ controlTable sizes (flowIn sizes (now (nodes .entry)) (now (updates .entry)) (now (stores .entry)) output) (now (work .entry))) ⌝ }
 {

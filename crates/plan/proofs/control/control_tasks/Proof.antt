@@ -20,12 +20,6 @@ loop-holds c = (omega arith, refl, omega arith, controls-start _ _ _)
 push-control-requires : tie.Need-push-control-requires Inv-loop μ-loop
 push-control-requires c κs = (rw (c .before .before .loop .inv .1) (c .before .before .before .before .before .pre), c .before .loop-test .taken, c .before .before .loop .inv .2)
 
-add-i : tie.Need-add-i Inv-loop μ-loop
-add-i c = search needs
-
-loop-less : tie.Need-loop-less Inv-loop μ-loop
-loop-less c = search needs
-
 loop-again : tie.Need-loop-again Inv-loop μ-loop
 loop-again c = (omega (arith, c .before .before .before .before .loop-test .taken), omega (arith, c .before .before .before .before .before .loop .inv .1), omega (arith, c .before .before .before .before .before .loop .inv .2, c .before .before .push-control .ensures .0, control-most (c .before .before .before .before .before .before .before .before .args .sizes .nodes) (c .before .before .before .before .before .before .before .before .args .nodes .now) (c .before .before .before .before .before .loop .work) (c .before .before .before .before .before .loop .i)), controls-next _ _ _ _ _ _ _ _ (c .before .before .before .before .before .before .before .before .pre) (c .before .before .before .before .loop-test .taken) (c .before .before .before .before .before .loop .inv .3) (c .before .before .push-control .ensures))
 
@@ -43,8 +37,8 @@ control-tasks-spec =
     μ-loop
     loop-holds
     push-control-requires
-    add-i
-    loop-less
+    (λ c. search needs)
+    (λ c. search needs)
     loop-again
     same-length
     returns)

@@ -20,12 +20,6 @@ loop-holds c = (omega arith, refl, omega arith, numbers-start _ _ _)
 number-slot-requires : tie.Need-number-slot-requires Inv-loop μ-loop
 number-slot-requires c κs = (rw (c .before .before .loop .inv .1) (c .before .before .before .before .before .pre), c .before .loop-test .taken, c .before .before .loop .inv .2)
 
-add-i : tie.Need-add-i Inv-loop μ-loop
-add-i c = search needs
-
-loop-less : tie.Need-loop-less Inv-loop μ-loop
-loop-less c = search needs
-
 loop-again : tie.Need-loop-again Inv-loop μ-loop
 loop-again c = (omega (arith, c .before .before .before .before .loop-test .taken), omega (arith, c .before .before .before .before .before .loop .inv .1), numbers-few (homeIn (c .before .before .before .before .before .before .before .before .args .sizes .nodes) (c .before .before .before .before .before .before .before .before .args .nodes .now) (c .before .before .before .before .before .loop .work) (c .before .before .before .before .before .loop .i)) _ _ _ (c .before .before .before .before .before .loop .inv .2) (c .before .before .number-slot .ensures .0), numbers-next _ _ _ _ _ _ _ _ (c .before .before .before .before .before .before .before .before .pre) (c .before .before .before .before .loop-test .taken) (c .before .before .before .before .before .loop .inv .3) (c .before .before .number-slot .ensures))
 
@@ -43,8 +37,8 @@ number-slots-spec =
     μ-loop
     loop-holds
     number-slot-requires
-    add-i
-    loop-less
+    (λ c. search needs)
+    (λ c. search needs)
     loop-again
     same-length
     returns)

@@ -7,11 +7,8 @@ use Rattle.plan.proofs.hoist.descends.Tie as tie
 returns : tie.Need-returns
 returns c = descends-always _ _ _ _ (c .if1 .taken)
 
-is-hoistable-requires : tie.Need-is-hoistable-requires
-is-hoistable-requires c κs = search needs
-
 returns-2 : tie.Need-returns-2
 returns-2 c = descends-unless _ _ _ _ _ (c .before .if1 .left) (c .is-hoistable .ensures)
 
 pub descends-spec : {M : Type 1} → statement M
-descends-spec = tie.close (tie.spec returns is-hoistable-requires returns-2)
+descends-spec = tie.close (tie.spec returns (λ c κs. search needs) returns-2)

@@ -27,12 +27,6 @@ mul-work c = omega (arith, c .before .before .before .loop .inv .1, c .before .b
 slice-write-work : tie.Need-slice-write-work Inv-loop μ-loop
 slice-write-work c = omega (arith, c .before .before .before .loop .inv .1, c .before .before .before .before .before .before .pre .room)
 
-add-i : tie.Need-add-i Inv-loop μ-loop
-add-i c = search needs
-
-loop-less : tie.Need-loop-less Inv-loop μ-loop
-loop-less c = search needs
-
 loop-again : tie.Need-loop-again Inv-loop μ-loop
 loop-again c = (omega arith, simp length-set (c .before .before .before .loop .inv .1), invariance-next _ _ _ (c .before .before .before .before .before .before .pre) _ (c .before .before .loop-test .taken) _ _ _ refl (c .before .before .before .loop .inv .2) (c .invariant-word .ensures))
 
@@ -52,8 +46,8 @@ invariance-spec =
     invariant-word-requires
     mul-work
     slice-write-work
-    add-i
-    loop-less
+    (λ c. search needs)
+    (λ c. search needs)
     loop-again
     same-length
     returns)

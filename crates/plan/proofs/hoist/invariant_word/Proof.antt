@@ -9,15 +9,6 @@ use Rattle.plan.proofs.hoist.invariant_word.Tie as tie
 operand-count-requires : tie.Need-operand-count-requires
 operand-count-requires c κs = omega arith
 
-mul-at : tie.Need-mul-at
-mul-at c = search needs
-
-mul-code : tie.Need-mul-code
-mul-code c = search needs
-
-shared-slice-read-code : tie.Need-shared-slice-read-code
-shared-slice-read-code c = search needs
-
 returns : tie.Need-returns
 returns c = word-constant _ _ _ _ _ (c .before .before .before .operand-count .ensures) (c .before .before .if1 .taken) (c .if2 .taken)
 
@@ -26,15 +17,6 @@ returns-2 c = word-parameter _ _ _ _ _ (c .before .before .before .before .opera
 
 returns-3 : tie.Need-returns-3
 returns-3 c = word-other _ _ _ _ _ (c .before .before .before .before .operand-count .ensures) (c .before .before .before .if1 .taken) (c .before .if2 .left) (c .if3 .left)
-
-add-lhs : tie.Need-add-lhs
-add-lhs c = search needs
-
-mul-lhs : tie.Need-mul-lhs
-mul-lhs c = search needs
-
-shared-slice-read-lhs : tie.Need-shared-slice-read-lhs
-shared-slice-read-lhs c = search needs
 
 cast-lhs : tie.Need-cast-lhs
 cast-lhs c = omega (arith, c .shared-slice-known4 .given (3 * c .before .before .before .before .before .args .i + 1))
@@ -57,15 +39,6 @@ shared-slice-read-if5 c = omega (arith, operands-before _ _ _ (c .before .before
 returns-5 : tie.Need-returns-5
 returns-5 c = word-varies _ _ _ _ _ (c .before .before .before .before .before .operand-count .ensures) (c .before .before .before .before .if1 .left) (c .before .before .if4 .left) (c .if5 .taken)
 
-add-rhs : tie.Need-add-rhs
-add-rhs c = search needs
-
-mul-rhs : tie.Need-mul-rhs
-mul-rhs c = search needs
-
-shared-slice-read-rhs : tie.Need-shared-slice-read-rhs
-shared-slice-read-rhs c = search needs
-
 cast-rhs : tie.Need-cast-rhs
 cast-rhs c = omega (arith, c .shared-slice-known7 .given (3 * c .before .before .before .before .before .before .before .before .before .args .i + 2))
 
@@ -83,15 +56,15 @@ invariant-word-spec =
     tie.close
     (tie.spec
     operand-count-requires
-    mul-at
-    mul-code
-    shared-slice-read-code
+    (λ c. search needs)
+    (λ c. search needs)
+    (λ c. search needs)
     returns
     returns-2
     returns-3
-    add-lhs
-    mul-lhs
-    shared-slice-read-lhs
+    (λ c. search needs)
+    (λ c. search needs)
+    (λ c. search needs)
     cast-lhs
     mul-result
     shared-slice-read-result
@@ -99,9 +72,9 @@ invariant-word-spec =
     mul-if5
     shared-slice-read-if5
     returns-5
-    add-rhs
-    mul-rhs
-    shared-slice-read-rhs
+    (λ c. search needs)
+    (λ c. search needs)
+    (λ c. search needs)
     cast-rhs
     mul-result-2
     shared-slice-read-result-2

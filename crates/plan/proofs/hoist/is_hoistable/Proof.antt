@@ -4,15 +4,6 @@ use borrow.Author.Needs.{needs}
 use Rattle.plan.proofs.hoist.is_hoistable.Statement.{statement}
 use Rattle.plan.proofs.hoist.is_hoistable.Tie as tie
 
-mul-if1 : tie.Need-mul-if1
-mul-if1 c = search needs
-
-shared-slice-read-if1 : tie.Need-shared-slice-read-if1
-shared-slice-read-if1 c = search needs
-
-operand-count-requires : tie.Need-operand-count-requires
-operand-count-requires c κs = search needs
-
 returns : tie.Need-returns
 returns c = hoistable-yes _ _ _ _ (c .before .if1 .taken) (c .operand-count .ensures)
 
@@ -21,4 +12,4 @@ returns-2 c = hoistable-no _ _ _ (c .if1 .left)
 
 pub is-hoistable-spec : {M : Type 1} → statement M
 is-hoistable-spec =
-    tie.close (tie.spec mul-if1 shared-slice-read-if1 operand-count-requires returns returns-2)
+    tie.close (tie.spec (λ c. search needs) (λ c. search needs) (λ c κs. search needs) returns returns-2)

@@ -9,15 +9,6 @@ use borrow.Author.Needs.{needs}
 use Rattle.plan.proofs.hoist.mark_roots.Statement.{statement}
 use Rattle.plan.proofs.hoist.mark_roots.Tie as tie
 
-add-work : tie.Need-add-work
-add-work c = search needs
-
-mul-work : tie.Need-mul-work
-mul-work c = search needs
-
-slice-write-work : tie.Need-slice-write-work
-slice-write-work c = search needs
-
 mark-updates-requires : tie.Need-mark-updates-requires
 mark-updates-requires c κs = (c .before .before .before .before .pre .0, simp length-set (omega (arith, c .before .before .before .before .pre .3)))
 
@@ -34,9 +25,9 @@ pub mark-roots-spec : {M : Type 1} → statement M
 mark-roots-spec =
     tie.close
     (tie.spec
-    add-work
-    mul-work
-    slice-write-work
+    (λ c. search needs)
+    (λ c. search needs)
+    (λ c. search needs)
     mark-updates-requires
     mark-updates-requires-2
     same-length

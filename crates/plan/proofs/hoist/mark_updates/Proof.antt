@@ -19,20 +19,8 @@ abbrev μ-loop : tie.MeasureT-loop
 loop-holds : tie.Need-loop-holds Inv-loop μ-loop
 loop-holds c = (omega arith, refl, updates-start (c .before .before .args .base) (c .before .before .args .updates .now) _)
 
-mul-mark-update : tie.Need-mul-mark-update Inv-loop μ-loop
-mul-mark-update c = search needs
-
-shared-slice-read-mark-update : tie.Need-shared-slice-read-mark-update Inv-loop μ-loop
-shared-slice-read-mark-update c = search needs
-
 mark-update-requires : tie.Need-mark-update-requires Inv-loop μ-loop
 mark-update-requires c κs = omega (arith, c .before .before .before .before .before .before .pre .0 (c .before .before .before .loop .i), c .before .before .before .before .before .before .pre .1, c .before .before .before .loop .inv .1)
-
-add-i : tie.Need-add-i Inv-loop μ-loop
-add-i c = search needs
-
-loop-less : tie.Need-loop-less Inv-loop μ-loop
-loop-less c = search needs
 
 loop-again : tie.Need-loop-again Inv-loop μ-loop
 loop-again c = (omega (arith, c .before .before .before .before .before .loop-test .taken), omega (arith, c .before .before .before .before .before .before .loop .inv .1), updates-next _ _ _ _ _ (c .before .before .before .before .before .before .loop .i) (c .before .before .before .before .before .loop-test .taken) (c .before .before .before .before .before .before .loop .inv .2) (c .before .before .mark-update .ensures))
@@ -50,11 +38,11 @@ mark-updates-spec =
     Inv-loop
     μ-loop
     loop-holds
-    mul-mark-update
-    shared-slice-read-mark-update
+    (λ c. search needs)
+    (λ c. search needs)
     mark-update-requires
-    add-i
-    loop-less
+    (λ c. search needs)
+    (λ c. search needs)
     loop-again
     same-length
     returns)

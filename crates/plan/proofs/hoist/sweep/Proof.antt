@@ -17,14 +17,8 @@ abbrev μ-loop : tie.MeasureT-loop
 loop-holds : tie.Need-loop-holds Inv-loop μ-loop
 loop-holds c = (omega arith, refl, sweep-start _ _ _ _ _)
 
-sub-i : tie.Need-sub-i Inv-loop μ-loop
-sub-i c = search needs
-
 sweep-node-requires : tie.Need-sweep-node-requires Inv-loop μ-loop
 sweep-node-requires c κs = (rw (c .before .before .loop .inv .1) (c .before .before .before .before .before .pre .0), omega (arith, c .before .before .loop .inv .0, c .before .loop-test .taken), c .before .before .before .before .before .pre .2)
-
-loop-less : tie.Need-loop-less Inv-loop μ-loop
-loop-less c = search needs
 
 loop-again : tie.Need-loop-again Inv-loop μ-loop
 loop-again c = (omega (arith, c .before .before .before .before .before .loop .inv .0, c .before .before .before .before .loop-test .taken), omega (arith, c .before .before .before .before .before .loop .inv .1), sweep-next _ _ _ _ _ _ _ _ (c .before .before .before .before .before .loop .i) (c .before .before .before .before .before .before .before .before .pre .0) (omega (arith, c .before .before .before .before .loop-test .taken)) (c .before .before .before .before .before .loop .inv .0) (c .before .before .before .before .before .before .before .before .pre .1) (c .before .before .before .before .before .before .before .before .pre .2) (c .before .before .before .before .before .loop .inv .2) (c .before .before .sweep-node .ensures))
@@ -42,9 +36,9 @@ sweep-spec =
     Inv-loop
     μ-loop
     loop-holds
-    sub-i
+    (λ c. search needs)
     sweep-node-requires
-    loop-less
+    (λ c. search needs)
     loop-again
     same-length
     returns)
