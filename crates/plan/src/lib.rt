@@ -3,6 +3,7 @@
 
 pub mod control;
 pub mod hoist;
+pub mod sources;
 
 ghost use mathlib.Core.Path.{_≡_};
 ghost use Prim.Native.Nat.{_<_};
