@@ -3,7 +3,8 @@ use crate::Sizes;
 ghost use mathlib.Core.Path.{_≡_};
 ghost use Prim.Native.Nat.{_+_, _*_, _≤_, _<_};
 ghost use lib.ListN.{length, getD};
-ghost use Rattle.block.specs.Block.{code, first};
+ghost use Rattle.tables.specs.Loops.{turns};
+ghost use Rattle.block.specs.Block.{code};
 ghost use Rattle.plan.specs.Layout.{Lent};
 ghost use Rattle.plan.specs.SourceLaws.{controlCode, loadCode, sourceCode, placeWord, freshWord, canonicalNode};
 
@@ -121,4 +122,17 @@ fn canonical_node(nodes: &[u32], work: &mut [u32], sizes: Sizes, control: bool, 
         return;
     }
     work[4 * count + i] = found - 1;
+}
+
+// Of all nodes, where no source has a home yet.
+pub fn canonical(nodes: &[u32], work: &mut [u32], sizes: Sizes, control: bool)
+    requires { ⌜ Lent sizes (now nodes) (length (now work)) ⌝ }
+    ensures { λ _. ⌜ now (work .exit) ≡ turns (canonicalNode sizes control (now (nodes .entry))) (now (work .entry)) (sizes .nodes) ⌝ }
+{
+    let count = sizes.nodes;
+    let mut i: usize = 0;
+    while i < count {
+        canonical_node(nodes, work, sizes, control, i);
+        i += 1;
+    }
 }

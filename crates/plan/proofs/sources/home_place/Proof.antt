@@ -13,25 +13,13 @@ returns-2 : tie.Need-returns-2
 unfolding placeWord
 returns-2 c = rw (ne-eqb _ _ (c .before .if1 .left), eq-eqb _ _ (c .if2 .taken))
 
-add-result : tie.Need-add-result
-add-result c = search needs
-
 returns-3 : tie.Need-returns-3
 unfolding placeWord
 returns-3 c = rw (ne-eqb _ _ (c .before .before .if1 .left), ne-eqb _ _ (c .before .if2 .left), eq-eqb _ _ (c .if3 .taken))
 
-add-result-2 : tie.Need-add-result-2
-add-result-2 c = search needs
-
 returns-4 : tie.Need-returns-4
 unfolding placeWord
 returns-4 c = rw (ne-eqb _ _ (c .before .before .before .if1 .left), ne-eqb _ _ (c .before .before .if2 .left), ne-eqb _ _ (c .before .if3 .left), eq-eqb _ _ (c .if4 .taken))
-
-add-result-3 : tie.Need-add-result-3
-add-result-3 c = search needs
-
-add-result-4 : tie.Need-add-result-4
-add-result-4 c = search needs
 
 returns-5 : tie.Need-returns-5
 unfolding placeWord
@@ -47,11 +35,11 @@ home-place-spec =
     (tie.spec
     returns
     returns-2
-    add-result
+    (λ c. search needs)
     returns-3
-    add-result-2
+    (λ c. search needs)
     returns-4
-    add-result-3
-    add-result-4
+    (λ c. search needs)
+    (λ c. search needs)
     returns-5
     returns-6)
