@@ -1,22 +1,22 @@
 -- Laws that the functions of src/control cite: the slots and the control tasks, turn by turn. Assumes nothing.
 use mathlib.Core.Path.{_≡_, refl, sym, ap, _∙_}
-use mathlib.Core.Logic.{_⊎_, inl, inr}
+use mathlib.Core.Logic.{inl}
 use mathlib.Core.Bool.{Bool, true, false, cond, not, _&&_}
-use mathlib.Core.List.{List, [], _∷_, _++_, map, append-assoc, append-nil}
+use mathlib.Core.List.{List, [], _∷_, _++_, map, append-assoc}
 use Prim.Native.Nat.{ℕ, zero, suc, _+_, _*_, _≤_, _<_}
 use native.Mathlib.Omega.{arith}
-use lib.ListN.{length, getD, set, length-set, length-append, length-map}
-use lib.Dec.{T, eqb, ltb}
+use lib.ListN.{length, getD, set, length-append, length-map}
+use lib.Dec.{eqb, ltb}
 use borrow.Author.Tests.{ne-eqb}
 use Rattle.plan.specs.declared.Sizes.{Sizes}
 use Rattle.plan.specs.Lists.{countUp, count, filter}
 use Rattle.plan.specs.ListLaws.{count-up-length}
 use Rattle.plan.specs.Nodes.{Node, isComputed, nodeAt}
 use Rattle.plan.specs.Hoist.{hoistable, homesOf, number, controlComputations}
-use Rattle.plan.specs.Schedule.{Task, computeTask, keepTask, controlTask, controlTasks}
+use Rattle.plan.specs.Schedule.{Task, controlTask, controlTasks}
 use Rattle.plan.specs.OriginLaws.{number-length}
 use Rattle.plan.specs.Layout.{Lent, taskWord}
-use Rattle.plan.specs.Regions.{written, written-none, written-in, written-out, written-push, written-join, written-length, written-swap, set-beside, Region, region-at, flag, flags, flags-length, flags-at, flags-append}
+use Rattle.plan.specs.Regions.{written, written-none, written-out, written-push, written-join, set-beside, Region, region-at, flag, flags, flags-length, flags-at, flags-append}
 use Rattle.plan.specs.Words.{nodesTo, nodes-length, node-at, operandCount, computedIn, hoistableIn, computed-in, count-up-snoc, map-snoc}
 use Rattle.plan.specs.HoistLaws.{hoistable-in, flag-test}
 

@@ -1,21 +1,20 @@
 -- The control phase's share of the plan as the work table holds it: `controlTable`, and that the six functions leave it: `control-share`. Assumes nothing.
 use mathlib.Core.Path.{_≡_, refl, sym, ap, _∙_}
 use mathlib.Core.Logic.{_⊎_, inl, inr}
-use mathlib.Core.Bool.{Bool, true, false, cond, not}
+use mathlib.Core.Bool.{Bool, true, false}
 use mathlib.Core.List.{List, [], _∷_, _++_, map}
-use Prim.Native.Nat.{ℕ, zero, suc, _+_, _*_, _≤_, _<_}
+use Prim.Native.Nat.{ℕ, zero, suc, _*_, _≤_, _<_}
 use native.Mathlib.Omega.{arith}
-use lib.ListN.{length, getD, length-map, length-replicate, replicate}
+use lib.ListN.{length, length-replicate, replicate}
 use lib.Dec.{T, eqb, eqb→eq}
 use Rattle.tables.specs.Tests.{or-pass}
-use Rattle.expand.specs.Graph.{Graph}
 use Rattle.plan.specs.declared.Sizes.{Sizes}
 use Rattle.plan.specs.declared.Hoisted.{Hoisted}
 use Rattle.plan.specs.Lists.{member, count}
 use Rattle.plan.specs.ListLaws.{member-append}
 use Rattle.plan.specs.Nodes.{Node, Flow, updatesOf, roots}
 use Rattle.plan.specs.Flow.{flowOf}
-use Rattle.plan.specs.Hoist.{invariants, hoistable, markAll, sweep, neededBy, homesOf, number, controlComputations}
+use Rattle.plan.specs.Hoist.{invariants, markAll, sweep, neededBy, homesOf, number, controlComputations}
 use Rattle.plan.specs.Schedule.{Task, controlTasks, planOf}
 use Rattle.plan.specs.Reached.{length-markAll, length-sweep}
 use Rattle.plan.specs.OriginLaws.{number-length}

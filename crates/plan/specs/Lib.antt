@@ -25,6 +25,7 @@ pub mod HoistLaws
 pub mod RootLaws
 pub mod ControlLaws
 pub mod SourceLaws
+pub mod SampleLaws
 -- the control phase's share of the plan, in the table
 pub mod ControlShare
 -- the Rust's own forms: definitions, and that they give the same plan

@@ -1,14 +1,13 @@
 -- Generic: words written over a region of one table, and what a region holds. Assumes nothing.
 use mathlib.Core.Path.{_≡_, refl, sym, ap, _∙_}
 use mathlib.Core.Logic.{_⊎_, inl, inr}
-use mathlib.Core.Bool.{Bool, true, false, cond}
+use mathlib.Core.Bool.{Bool, true, false}
 use mathlib.Core.List.{List, [], _∷_, _++_, map}
 use Prim.Native.Nat.{ℕ, zero, suc, _+_, _-_, _≤_, _<_}
 use native.Mathlib.Omega.{arith}
 use native.Mathlib.Decide.{decLt}
-use lib.ListN.{length, take, drop, getD, set, length-set, length-append, length-map, List·getD-map}
-use lib.Seq.{sets, sets-eq, length-sets, set-comm, set-set, set-out, getD-set-same, getD-set-other, ext-getD}
-use Rattle.tables.specs.Parts.{part, part-at, length-part}
+use lib.ListN.{length, take, drop, getD, set, length-map, List·getD-map}
+use lib.Seq.{sets, sets-eq, length-sets, set-comm, set-set, ext-getD}
 use Rattle.tables.specs.Stores.{sets-append, sets-in, sets-out}
 
 -- the table with these words from `base` on

@@ -1,8 +1,8 @@
 -- The words of good nodes as layer one's nodes: `operands-in`, `computed-in`, `invariant-in`. Assumes nothing.
-use mathlib.Core.Path.{_≡_, refl, sym, ap, _∙_}
+use mathlib.Core.Path.{_≡_, refl, ap, _∙_}
 use mathlib.Core.Bool.{Bool, true, false, cond, not, _&&_}
 use mathlib.Core.List.{List, [], _∷_, _++_, map}
-use Prim.Native.Nat.{ℕ, zero, suc, _+_, _*_, _≤_, _<_}
+use Prim.Native.Nat.{ℕ, zero, suc, _+_, _≤_, _<_}
 use native.Mathlib.Omega.{arith}
 use lib.ListN.{length, getD, set, length-map}
 use lib.Dec.{eqb, ltb}
@@ -14,9 +14,9 @@ use Rattle.expand.specs.Good.{good-operands}
 use Rattle.expand.specs.Graph.{Graph}
 use Rattle.expand.specs.GraphLaws.{GoodGraph}
 use Rattle.plan.specs.declared.Sizes.{Sizes}
-use Rattle.plan.specs.Lists.{countUp, filter}
+use Rattle.plan.specs.Lists.{countUp}
 use Rattle.plan.specs.Nodes.{Node, inputNode, networkNode, constantNode, parameterNode, stateNode, delayNode, binaryNode, unaryNode, operands, isComputed, nodeAt}
-use Rattle.plan.specs.Flow.{nodeAs, nodeOf, nodeIn}
+use Rattle.plan.specs.Flow.{nodeIn}
 use Rattle.plan.specs.Hoist.{invariantNode, hoistable}
 use Rattle.plan.specs.FlowLaws.{IsNode, node-is, flow-at}
 use Rattle.plan.specs.ListLaws.{map-at, count-up-length}

@@ -3,6 +3,7 @@
 
 pub mod control;
 pub mod hoist;
+pub mod schedule;
 pub mod sources;
 
 ghost use mathlib.Core.Path.{_≡_};
