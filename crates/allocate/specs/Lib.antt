@@ -40,3 +40,20 @@ pub mod Planned
 pub mod TaskArms
 pub mod TaskReady
 pub mod Links
+-- .. and what they hold: the state that is promised
+pub mod ActionWords
+pub mod Holds
+pub mod HoldsLaws
+pub mod HoldsTake
+pub mod HoldsFetch
+pub mod HoldsReads
+pub mod HoldsArms
+pub mod HoldsTasks
+pub mod HoldsRun
+pub mod HoldsBegin
+pub mod HoldsLinks
+pub mod HoldsRoom
+pub mod HoldsPhase
+pub mod HoldsSupply
+pub mod HoldsSettings
+pub mod HoldsNamed
