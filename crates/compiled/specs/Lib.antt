@@ -32,3 +32,5 @@ pub mod CompiledRuns
 pub mod Locked
 pub mod LockedRun
 pub mod CallLocked
+-- the starred kernels of document 01
+pub mod Starred
