@@ -16,7 +16,8 @@ use Rattle.allocate.specs.State.{Allocated, allocated, allLocked, Settin
 use Rattle.allocate.specs.Allocator.{distance, readLater, spillIf, evict, evictKey, takeBest, takeFree, takeRegister}
 use Rattle.allocate.specs.StateLaws.{Sixteen}
 use Rattle.allocate.specs.StateLaws as StateLaws
-use Rattle.allocate.specs.RustKeys.{pairLe, key-order, next-is}
+use Rattle.allocate.specs.RustAllocator.{pairLe}
+use Rattle.allocate.specs.RustKeys.{key-order, next-is}
 use Rattle.allocate.specs.RustKeys as RustKeys
 use Rattle.allocate.specs.Layout.{nextAt}
 use Rattle.allocate.specs.Registers.{usableBit, isFree, freeFrom, reloads, nextRead, keepsLess, mayEvict, betterOf, victimOf, victim-le}
