@@ -73,6 +73,10 @@ pub fn run(ours: &mut Ours) {
     for sections in [2, 20, 1_000] {
         engines(ours, filters(sections));
     }
+    run_checks(ours);
+}
+
+pub fn run_checks(ours: &mut Ours) {
     checks(ours, "plain", plain_chain);
     checks(ours, "keys that collide", colliding_chain);
     checks(ours, "tanh", |count| tanh_block(count / 36, 16));

@@ -1,7 +1,7 @@
 //! Compares Lichenstitch with the Rust. Run by ../compare and ../vectors.
 //!
 //! driver SUBJECT OURS SEED COUNT   SUBJECT: words, blocks, runs, checks. OURS: the program made of ours/ours.c and the static library
-//! driver bench OURS                times both sides
+//! driver bench OURS [checks]       times both sides, or the step checker alone
 //! driver vectors SUBJECT           prints vectors with the Rust's answers
 mod bench;
 mod blocks;
@@ -37,9 +37,10 @@ fn main() {
             report(subject, seed, outcome);
         }
         ["bench", program] => bench::run(&mut Ours::start(program)),
+        ["bench", program, "checks"] => bench::run_checks(&mut Ours::start(program)),
         ["vectors", "words"] => print!("{}", vectors::words()),
         ["vectors", "blocks"] => print!("{}", vectors::blocks()),
-        _ => panic!("usage: driver words|blocks|runs|checks OURS SEED COUNT, driver bench OURS, driver vectors words|blocks"),
+        _ => panic!("usage: driver words|blocks|runs|checks OURS SEED COUNT, driver bench OURS [checks], driver vectors words|blocks"),
     }
 }
 
