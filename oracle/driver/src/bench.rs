@@ -116,7 +116,7 @@ fn checks(ours: &mut Ours, name: &str, block: impl Fn(usize) -> Tables) {
         let graph = graph_call(&play, &expanded);
         let check = Checked { play, expanded, mask: 0xffff, kernel }.question();
         assert!(check.number == 0, "a kernel of the Rust passes");
-        [&check, &graph].map(|asked| (0..3).map(|_| ours.time(asked.call(), 1)).min().unwrap() as f64)
+        [&check, &graph].map(|asked| (0..ROUNDS).map(|_| ours.time(asked.call(), 1)).min().unwrap() as f64)
     });
     let [[eighth, _], [whole, graph]] = took.map(|times| times.map(|nanoseconds| nanoseconds / 1_000.0));
     println!(
