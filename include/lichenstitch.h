@@ -1,6 +1,6 @@
 // Lichenstitch's C functions, of the static library that `rt staticlib capi` makes (x86-64 Linux).
 // Every value is a 32-bit word; a word that stands for a float holds its IEEE 754 binary32 bits.
-// Kept by hand beside crates/capi/src/lib.rt, which has the contracts.
+// Kept by hand beside crates/capi/src, which has the contracts.
 #ifndef LICHENSTITCH_H
 #define LICHENSTITCH_H
 
@@ -151,6 +151,43 @@ uint32_t lichenstitch_checked_run(uint32_t version, uint32_t category, uint32_t 
                                   uint32_t *spills, size_t spills_length, uint32_t *held, size_t held_length,
                                   uint32_t *area, size_t area_length, uint32_t *cursors, size_t cursors_length,
                                   uint32_t *output, size_t output_length, uint32_t *answer, size_t answer_length);
+
+// House files: an effect block or a rendering in blocks of 512 bytes, as they are stored. A reader is lent the bytes of one file, a writer
+// as many bytes as the file needs or more; it writes the first of them and leaves the rest. A refusal changes no table and no byte, save
+// that answer[0] is as above. Of a file that is read it is 20 a block's check is wrong, 21 any other fault of the frame, then 13 a table
+// shorter than what the file holds.
+
+// Reads an effect block; it is not validated. The tables of the file are written over the first words of the four lent ones, and the words
+// past them stay. Accepted: answer is version, category, channels, network, output, and how many records each table has: parameters
+// (three words each), states (two), delays (two), nodes (three).
+uint32_t lichenstitch_read_block(const uint8_t *bytes, size_t bytes_length, uint32_t *parameters,
+                                 size_t parameters_length, uint32_t *states, size_t states_length, uint32_t *delays,
+                                 size_t delays_length, uint32_t *nodes, size_t nodes_length, uint32_t *answer,
+                                 size_t answer_length);
+
+// Reads a rendering of either engine: its samples over the first words lent for them. Accepted: answer[0] is 2 where the graph run made it,
+// 3 where the step run did, answer[1] the number of samples.
+uint32_t lichenstitch_read_rendering(const uint8_t *bytes, size_t bytes_length, uint32_t *samples,
+                                     size_t samples_length, uint32_t *answer, size_t answer_length);
+
+// Validates an effect block and writes its file. Accepted: the file's number of bytes, answer[0] its low 32 bits, answer[1] its high ones.
+// Refused: as lichenstitch_validate, or 13 where fewer bytes are lent than the file needs.
+uint32_t lichenstitch_write_block(uint32_t version, uint32_t category, uint32_t channels, uint32_t network,
+                                  uint32_t output, const uint32_t *parameters, size_t parameters_length,
+                                  const uint32_t *states, size_t states_length, const uint32_t *delays,
+                                  size_t delays_length, const uint32_t *nodes, size_t nodes_length, uint8_t *file,
+                                  size_t file_length, uint32_t *answer, size_t answer_length);
+
+// Write the file of a rendering that the graph run made, or that the step run made. Accepted: as lichenstitch_write_block. Refused: 13 where
+// fewer bytes are lent than the file needs, or there are over 2^32 - 1 samples.
+uint32_t lichenstitch_write_graph_rendering(const uint32_t *samples, size_t samples_length, uint8_t *file,
+                                            size_t file_length, uint32_t *answer, size_t answer_length);
+uint32_t lichenstitch_write_step_rendering(const uint32_t *samples, size_t samples_length, uint8_t *file,
+                                           size_t file_length, uint32_t *answer, size_t answer_length);
+
+// How many bytes the file of a block has, from the number of records of each table, and that of a rendering, from the number of samples.
+size_t lichenstitch_block_bytes(uint32_t parameters, uint32_t states, uint32_t delays, uint32_t nodes);
+size_t lichenstitch_rendering_bytes(uint32_t samples);
 
 #ifdef __cplusplus
 }

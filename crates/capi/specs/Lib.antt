@@ -2,3 +2,4 @@
 pub mod Crossing
 pub mod Runs
 pub mod CheckedRuns
+pub mod Files

@@ -80,7 +80,7 @@ stepCall b c budget s t lent =
     (stepCrossing (Step.runCall b c budget s (withSixteen t)) (t .registers) lent)
 
 -- ---- what the C functions' proofs cite: an outcome of answer and tables crosses as its answer does
-crosses : {O T : Type 0} (cross : O → List ℕ → Crossed T) (call o : O) (c d : Crossing) (t : T) (lent : List ℕ) → cross call lent ≡ crossed d t
+pub crosses : {O T : Type 0} (cross : O → List ℕ → Crossed T) (call o : O) (c d : Crossing) (t : T) (lent : List ℕ) → cross call lent ≡ crossed d t
     → call ≡ o → c ≡ d → crossed c t ≡ cross o lent
 crosses {O = O} cross call o c d t lent e f g = ap (λ (x : Crossing). crossed x t) g ∙ (sym e ∙ ap (λ (x : O). cross x lent) f)
 
