@@ -16,8 +16,9 @@ struct timespec {
     long seconds, nanoseconds;
 };
 int clock_gettime(int clock, struct timespec *now);
+void *mmap(void *at, size_t count, int protection, int flags, int fd, long offset);
 
-enum { BUFFER = 1 << 20, ROOM = 1 << 25, SCALARS = 32, SLICES = 24 };
+enum { BUFFER = 1 << 20, ROOM = 1 << 26, SCALARS = 32, SLICES = 24 };
 
 static unsigned char input[BUFFER], output[BUFFER];
 static size_t input_at, input_end, output_end;
@@ -71,9 +72,23 @@ static size_t length[SLICES];
 #define HEADER scalar[0], scalar[1], scalar[2], scalar[3], scalar[4]
 #define TABLE(i) slice[i], length[i]
 #define BLOCK TABLE(0), TABLE(1), TABLE(2), TABLE(3)
+// A slice that stands for bytes, as many as a scalar says.
+#define BYTES(i, count) (uint8_t *)slice[i], scalar[count]
 #define EACH(value)                                            \
     for (size_t i = 0; i < length[0]; i++) last[i] = (value); \
     return 0
+
+// A rendering of 2^32 samples into as many bytes as its file would have. Both are mapped and, as the call is refused, never touched;
+// 2^32-1 where they cannot be mapped.
+static uint32_t write_too_many(void) {
+    enum { READ = 1, WRITE = 2, PRIVATE = 2, ANONYMOUS = 0x20, NO_RESERVE = 0x4000 };
+    const size_t samples = (size_t)1 << 32, bytes = (samples + 124) / 124 * 512;
+    void *none = (void *)-1;
+    uint32_t *from = mmap(0, samples * sizeof(uint32_t), READ, PRIVATE | ANONYMOUS | NO_RESERVE, -1, 0);
+    uint8_t *to = mmap(0, bytes, READ | WRITE, PRIVATE | ANONYMOUS | NO_RESERVE, -1, 0);
+    if (from == none || to == none) return 0xffffffff;
+    return lichenstitch_write_graph_rendering(from, samples, to, bytes, TABLE(0));
+}
 
 // The functions, in the order of `Function` in driver/src/ours.rs. A word operation goes over whole slices: its
 // operands' words, one slice each, and a last slice for the results.
@@ -105,6 +120,12 @@ static uint32_t call(uint32_t function, uint32_t slices) {
     case 17:
         return lichenstitch_check(HEADER, BLOCK, scalar[5], scalar[6], scalar[7], scalar[8], scalar[9], scalar[10], TABLE(4),
                                   TABLE(5), TABLE(6), TABLE(7), TABLE(8));
+    case 18: return lichenstitch_read_block(BYTES(0, 0), TABLE(1), TABLE(2), TABLE(3), TABLE(4), TABLE(5));
+    case 19: return lichenstitch_read_rendering(BYTES(0, 0), TABLE(1), TABLE(2));
+    case 20: return lichenstitch_write_block(HEADER, BLOCK, BYTES(4, 5), TABLE(5));
+    case 21: return lichenstitch_write_graph_rendering(TABLE(0), BYTES(1, 0), TABLE(2));
+    case 22: return lichenstitch_write_step_rendering(TABLE(0), BYTES(1, 0), TABLE(2));
+    case 23: return write_too_many();
     default: _exit(2);
     }
 }

@@ -7,6 +7,7 @@ use qcdsp::kernels::KernelTables;
 use qcdsp::tables::Tables;
 use qcdsp::{Block, Processor};
 
+use crate::bench_files;
 use crate::blocks::{Case, Question};
 use crate::checks::Checked;
 use crate::generate::{plain_block, tanh_block};
@@ -19,8 +20,8 @@ const ROUNDS: usize = 7;
 const ROUND_NANOSECONDS: u64 = 100_000_000;
 
 /// The best of several rounds, taken in turns, so that both sides meet the machine in the same state. `ready` is done before each round of the
-/// Rust: our calls start each round from the words that are sent.
-fn compare<'a>(ours: &mut Ours, name: &str, call: impl Fn() -> Call<'a>, ready: impl Fn(), rust: impl Fn()) {
+/// Rust: our calls start each round from the words that are sent. Gives the microseconds of ours and of the Rust.
+pub fn compare<'a>(ours: &mut Ours, name: &str, call: impl Fn() -> Call<'a>, ready: impl Fn(), rust: impl Fn()) -> [f64; 2] {
     let repeats = |once: u64| (ROUND_NANOSECONDS / once.max(1)).clamp(1, 1_000_000) as u32;
     let rust_repeats = repeats(time(1, &rust));
     let ours_repeats = repeats(ours.time(call(), 1));
@@ -35,6 +36,7 @@ fn compare<'a>(ours: &mut Ours, name: &str, call: impl Fn() -> Call<'a>, ready: 
     }
     let [ours, rust] = best.map(|nanoseconds| nanoseconds / 1_000.0);
     println!("{name:<48} ours {ours:>9.1} us   Rust {rust:>9.1} us   ours/Rust {:.2}", ours / rust);
+    [ours, rust]
 }
 
 fn time(repeats: u32, run: impl Fn()) -> u64 {
@@ -74,6 +76,7 @@ pub fn run(ours: &mut Ours) {
         engines(ours, filters(sections));
     }
     run_checks(ours);
+    bench_files::run(ours);
 }
 
 pub fn run_checks(ours: &mut Ours) {

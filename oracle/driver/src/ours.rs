@@ -24,6 +24,12 @@ pub enum Function {
     GraphRun,
     StepRun,
     Check,
+    ReadBlock,
+    ReadRendering,
+    WriteBlock,
+    WriteGraph,
+    WriteSteps,
+    WriteTooMany,
 }
 
 /// Set in a function's word where ours.c is to time the call.

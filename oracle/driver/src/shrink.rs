@@ -38,7 +38,7 @@ pub fn smaller_blocks(block: Tables) -> impl Iterator<Item = Tables> {
 }
 
 /// Halves, quarters and so on down to single places of `0..count`.
-fn parts(count: usize) -> impl Iterator<Item = (usize, usize)> {
+pub fn parts(count: usize) -> impl Iterator<Item = (usize, usize)> {
     std::iter::successors(Some(count), |&size| (size > 1).then(|| size.div_ceil(2)))
         .filter(|&size| size > 0)
         .flat_map(move |size| (0..count).step_by(size).map(move |start| (start, count.min(start + size))))

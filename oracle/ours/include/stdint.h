@@ -1,2 +1,3 @@
 // For a compiler that comes without its headers.
 typedef __UINT32_TYPE__ uint32_t;
+typedef __UINT8_TYPE__ uint8_t;
