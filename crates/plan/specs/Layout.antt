@@ -84,6 +84,17 @@ pub record Lent (sizes : Sizes) (nodes : List ℕ) (words : ℕ) : Type 0 where
   pub delays : sizes .delays ≤ 4096
   pub room : 18 * sizes .nodes + 5 * sizes .states + 5 * sizes .delays + 262 ≤ words
 
+-- of what is lent, the sizes and the table alone
+pub record Room (sizes : Sizes) (words : ℕ) : Type 0 where
+  pub small : sizes .nodes ≤ 65536
+  pub states : sizes .states ≤ 4096
+  pub delays : sizes .delays ≤ 4096
+  pub room : 18 * sizes .nodes + 5 * sizes .states + 5 * sizes .delays + 262 ≤ words
+
+-- the same, of what is lent
+abbrev pub roomIn : (sizes : Sizes) (nodes : List ℕ) (words : ℕ) → Lent sizes nodes words → Room sizes words
+roomIn sizes nodes words lent = record { small = lent .small; states = lent .states; delays = lent .delays; room = lent .room }
+
 -- each update of a table is 0, or a node's number and one
 abbrev pub Updates : Sizes → List ℕ → Type 0
 Updates sizes updates = (i : ℕ) → getD updates i 0 ≤ sizes .nodes

@@ -26,8 +26,12 @@ pub mod RootLaws
 pub mod ControlLaws
 pub mod SourceLaws
 pub mod SampleLaws
+pub mod Chains
+pub mod LastLaws
 -- the control phase's share of the plan, in the table
 pub mod ControlShare
+-- what the plan leaves in the table for each phase
+pub mod Shares
 -- the Rust's own forms: definitions, and that they give the same plan
 pub mod RustPlan
 pub mod Worklist

@@ -1,0 +1,35 @@
+-- `update_of`: a law for each way out. Assumes nothing.
+use native.Mathlib.Omega.{arith}
+use Rattle.plan.specs.LastLaws.{update-state, update-delay}
+use borrow.Author.Needs.{needs}
+use Rattle.plan.proofs.schedule.update_of.Statement.{statement}
+use Rattle.plan.proofs.schedule.update_of.Tie as tie
+
+mul-result : tie.Need-mul-result
+mul-result c = search needs
+
+shared-slice-read-result : tie.Need-shared-slice-read-result
+shared-slice-read-result c = search needs
+
+returns : tie.Need-returns
+returns c = update-state _ _ _ (c .before .if1 .taken)
+
+mul-result-2 : tie.Need-mul-result-2
+mul-result-2 c = search needs
+
+shared-slice-read-result-2 : tie.Need-shared-slice-read-result-2
+shared-slice-read-result-2 c = search needs
+
+returns-2 : tie.Need-returns-2
+returns-2 c = update-delay _ _ _ (omega (arith, c .before .if1 .left))
+
+pub update-of-spec : {M : Type 1} → statement M
+update-of-spec =
+    tie.close
+    (tie.spec
+    mul-result
+    shared-slice-read-result
+    returns
+    mul-result-2
+    shared-slice-read-result-2
+    returns-2)
