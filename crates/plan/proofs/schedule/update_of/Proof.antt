@@ -12,7 +12,7 @@ shared-slice-read-result : tie.Need-shared-slice-read-result
 shared-slice-read-result c = search needs
 
 returns : tie.Need-returns
-returns c = update-state _ _ _ (c .before .if1 .taken)
+returns c = update-state (c .before .before .args .updates .now) (c .before .before .args .stores .now) (c .before .before .args .w) (c .before .if1 .taken)
 
 mul-result-2 : tie.Need-mul-result-2
 mul-result-2 c = search needs
@@ -21,7 +21,7 @@ shared-slice-read-result-2 : tie.Need-shared-slice-read-result-2
 shared-slice-read-result-2 c = search needs
 
 returns-2 : tie.Need-returns-2
-returns-2 c = update-delay _ _ _ (omega (arith, c .before .if1 .left))
+returns-2 c = update-delay (c .before .before .args .updates .now) (c .before .before .args .stores .now) (c .before .before .args .w) (omega (arith, c .before .if1 .left))
 
 pub update-of-spec : {M : Type 1} → statement M
 update-of-spec =
