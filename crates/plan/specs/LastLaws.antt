@@ -37,9 +37,10 @@ reading-last sizes work k h below = h .1 k below
 -- a store behind the homes leaves them
 reading-set : (sizes : Sizes) (work : List ℕ) (j v : ℕ) → headsAt sizes ≤ j → Reading sizes work → Reading sizes (set work j v)
 unfolding Reading
-reading-set sizes work j v far h =
-    (λ k below. rw (getD-set-other work j (homesAt sizes + k) v 0 (λ (e : homesAt sizes + k ≡ j). omega arith)) (h .0 k below),
-     λ k below. rw (getD-set-other work j (10 * sizes .nodes + k) v 0 (λ (e : 10 * sizes .nodes + k ≡ j). omega arith)) (h .1 k below))
+reading-set sizes work j v far h = (
+  λ k below. rw (getD-set-other work j (homesAt sizes + k) v 0 (λ (e : homesAt sizes + k ≡ j). omega arith)) (h .0 k below),
+  λ k below. rw (getD-set-other work j (10 * sizes .nodes + k) v 0 (λ (e : 10 * sizes .nodes + k ≡ j). omega arith)) (h .1 k below),
+)
 
 -- ---- the last reads
 

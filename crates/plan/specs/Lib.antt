@@ -28,6 +28,7 @@ pub mod SourceLaws
 pub mod SampleLaws
 pub mod Chains
 pub mod LastLaws
+pub mod ChainLaws
 -- the control phase's share of the plan, in the table
 pub mod ControlShare
 -- what the plan leaves in the table for each phase

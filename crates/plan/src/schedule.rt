@@ -7,9 +7,10 @@ ghost use Prim.Native.Nat.{_+_, _-_, _*_, _≤_, _<_};
 ghost use lib.ListN.{length, getD};
 ghost use Rattle.tables.specs.Loops.{turns};
 ghost use Rattle.plan.specs.Layout.{Lent, Updates, Room};
+ghost use Rattle.plan.specs.Regions.{written};
 ghost use Rattle.plan.specs.Words.{operandsIn};
 ghost use Rattle.plan.specs.SampleLaws.{sampleIn};
-ghost use Rattle.plan.specs.Chains.{Canonicals, Reading, readBy, readByAll, lastNode, readerIn, afterIn, linked, chainWrite, chainWrites};
+ghost use Rattle.plan.specs.Chains.{Canonicals, Reading, readBy, readByAll, lastNode, readerIn, afterIn, linked, chainWrite, chainWrites, Chained, writesAfter, tasksAfter, sampleWords};
 
 // Does the sample phase compute a node: it reaches it, and the node is computed and has no control slot.
 pub fn is_sample_computation(nodes: &[u32], work: &[u32], sizes: Sizes, i: usize) -> bool
@@ -163,4 +164,59 @@ pub fn chain_writes(nodes: &[u32], updates: &[u32], stores: &[u32], work: &mut [
         let update = update_of(updates, stores, w);
         chain_write(nodes, work, sizes, update, w);
     }
+}
+
+// The writes right after a computation (first of all where the place is 0), behind the tasks so far. The result is how many tasks there are.
+fn push_chain(work: &mut [u32], sizes: Sizes, place: usize, tasks: usize) -> usize
+    requires { ⌜ Room sizes (length (now work)) × Chained sizes (now work) × (place ≤ sizes .nodes) × (tasks + length (writesAfter sizes (now work) place) ≤ 2 * sizes .nodes + sizes .states + sizes .delays + 1) ⌝ }
+    ensures { λ r. ⌜ (r ≡ tasks + length (writesAfter sizes (now (work .entry)) place)) × (now (work .exit) ≡ written (11 * sizes .nodes + tasks) (writesAfter sizes (now (work .entry)) place) (now (work .entry))) ⌝ }
+{
+    let count = sizes.nodes;
+    let states = sizes.states;
+    let delays = sizes.delays;
+    let heads = 17 * count + 3 * (states + delays + 1) + 258 + states + delays;
+    let chain = heads + count + 1;
+    let mut total = tasks;
+    let mut word = work[heads + place] as usize;
+    while 0 < word {
+        let w = word - 1;
+        let task = (2 * count + w) as u32;
+        work[11 * count + total] = task;
+        total += 1;
+        word = work[chain + w] as usize;
+    }
+    total
+}
+
+// The tasks of one node, if the sample phase computes it: its computation, then the writes right after it.
+fn push_node(nodes: &[u32], work: &mut [u32], sizes: Sizes, i: usize, tasks: usize) -> usize
+    requires { ⌜ Lent sizes (now nodes) (length (now work)) × Chained sizes (now work) × (i < sizes .nodes) × (tasks + length (tasksAfter sizes (now nodes) (now work) i) ≤ 2 * sizes .nodes + sizes .states + sizes .delays + 1) ⌝ }
+    ensures { λ r. ⌜ (r ≡ tasks + length (tasksAfter sizes (now (nodes .entry)) (now (work .entry)) i)) × (now (work .exit) ≡ written (11 * sizes .nodes + tasks) (tasksAfter sizes (now (nodes .entry)) (now (work .entry)) i) (now (work .entry))) ⌝ }
+{
+    if !is_sample_computation(nodes, work, sizes, i) {
+        return tasks;
+    }
+    let count = sizes.nodes;
+    let task = i as u32;
+    work[11 * count + tasks] = task;
+    push_chain(work, sizes, i + 1, tasks + 1)
+}
+
+// All tasks of the sample phase, the output last. The result is how many there are.
+pub fn sample_tasks(nodes: &[u32], work: &mut [u32], sizes: Sizes) -> usize
+    requires { ⌜ Lent sizes (now nodes) (length (now work)) × Chained sizes (now work) × (length (sampleWords sizes (now nodes) (now work)) ≤ 2 * sizes .nodes + sizes .states + sizes .delays + 1) ⌝ }
+    ensures { λ r. ⌜ (r ≡ length (sampleWords sizes (now (nodes .entry)) (now (work .entry)))) × (now (work .exit) ≡ written (11 * sizes .nodes) (sampleWords sizes (now (nodes .entry)) (now (work .entry))) (now (work .entry))) ⌝ }
+{
+    let count = sizes.nodes;
+    let states = sizes.states;
+    let delays = sizes.delays;
+    let mut tasks = push_chain(work, sizes, 0, 0);
+    let mut i: usize = 0;
+    while i < count {
+        tasks = push_node(nodes, work, sizes, i, tasks);
+        i += 1;
+    }
+    let output = (2 * count + (states + delays)) as u32;
+    work[11 * count + tasks] = output;
+    tasks + 1
 }

@@ -9,17 +9,8 @@ use Rattle.plan.proofs.schedule.after.Tie as tie
 last-reader-requires : tie.Need-last-reader-requires
 last-reader-requires c κs = (roomIn _ _ _ (c .before .before .pre .0), c .before .before .pre .1, c .before .before .pre .2)
 
-is-sample-computation-requires : tie.Need-is-sample-computation-requires
-is-sample-computation-requires c κs = search needs
-
 returns : tie.Need-returns
 returns c = after-read _ _ _ _ _ _ _ (c .before .before .last-reader .ensures) (c .before .is-sample-computation .ensures) (c .if1 .taken)
-
-add-own : tie.Need-add-own
-add-own c = search needs
-
-cast-own : tie.Need-cast-own
-cast-own c = search needs
 
 returns-2 : tie.Need-returns-2
 returns-2 c = after-own _ _ _ _ _ _ _ (c .before .before .before .last-reader .ensures) (c .before .before .is-sample-computation .ensures) (c .before .if1 .left) (c .if2 .taken)
@@ -32,9 +23,9 @@ after-spec =
     tie.close
     (tie.spec
     last-reader-requires
-    is-sample-computation-requires
+    (λ c κs. search needs)
     returns
-    add-own
-    cast-own
+    (λ c. search needs)
+    (λ c. search needs)
     returns-2
     returns-3)

@@ -16,23 +16,14 @@ Inv-loop nodes updates stores work₀ sizes w₀ work w = (w ≤ sizes .states +
 abbrev μ-loop : tie.MeasureT-loop
 μ-loop nodes updates stores work₀ sizes w₀ work w = w
 
-add-w : tie.Need-add-w Inv-loop μ-loop
-add-w c = search needs
-
 loop-holds : tie.Need-loop-holds Inv-loop μ-loop
 loop-holds c = (omega arith, refl, λ h. h, refl)
-
-sub-w : tie.Need-sub-w Inv-loop μ-loop
-sub-w c = search needs
 
 update-of-requires : tie.Need-update-of-requires Inv-loop μ-loop
 update-of-requires c κs = omega (arith, c .before .loop .inv .0, c .loop-test .taken, c .before .before .before .before .before .before .before .pre .3, c .before .before .before .before .before .before .before .pre .4)
 
 chain-write-requires : tie.Need-chain-write-requires Inv-loop μ-loop
 chain-write-requires c κs = (rw (c .before .before .before .loop .inv .1) (c .before .before .before .before .before .before .before .before .before .pre .0), c .before .before .before .loop .inv .2 (c .before .before .before .before .before .before .before .before .before .pre .1), omega (arith, c .before .before .before .loop .inv .0, c .before .before .loop-test .taken), omega (arith, c .before .update-of .ensures, c .before .before .before .before .before .before .before .before .before .pre .2 (c .before .before .before .loop .w - 1)))
-
-loop-less : tie.Need-loop-less Inv-loop μ-loop
-loop-less c = search needs
 
 loop-again : tie.Need-loop-again Inv-loop μ-loop
 loop-again c = (omega (arith, c .before .before .before .before .before .before .loop .inv .0, c .before .before .before .before .before .loop-test .taken), omega (arith, c .before .before .before .before .before .before .loop .inv .1), λ h. chain-kept _ _ _ _ _ _ (c .before .before .before .before .before .before .loop .inv .2 h) (c .before .before .chain-write .ensures), chains-next _ _ _ _ (c .before .before .before .before .before .before .loop .w) _ _ _ _ (omega (arith, c .before .before .before .before .before .loop-test .taken)) (c .before .before .before .before .before .before .loop .inv .3) (c .before .before .before .before .update-of .ensures) (c .before .before .chain-write .ensures))
@@ -49,12 +40,12 @@ chain-writes-spec =
     (tie.spec
     Inv-loop
     μ-loop
-    add-w
+    (λ c. search needs)
     loop-holds
-    sub-w
+    (λ c. search needs)
     update-of-requires
     chain-write-requires
-    loop-less
+    (λ c. search needs)
     loop-again
     same-length
     returns)

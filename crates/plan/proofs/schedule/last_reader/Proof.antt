@@ -6,44 +6,11 @@ use borrow.Author.Needs.{needs}
 use Rattle.plan.proofs.schedule.last_reader.Statement.{statement}
 use Rattle.plan.proofs.schedule.last_reader.Tie as tie
 
-mul-homes : tie.Need-mul-homes
-mul-homes c = search needs
-
-add-homes : tie.Need-add-homes
-add-homes c = search needs
-
-add-homes-2 : tie.Need-add-homes-2
-add-homes-2 c = search needs
-
-mul-homes-2 : tie.Need-mul-homes-2
-mul-homes-2 c = search needs
-
-add-homes-3 : tie.Need-add-homes-3
-add-homes-3 c = search needs
-
-add-home : tie.Need-add-home
-add-home c = search needs
-
-add-home-2 : tie.Need-add-home-2
-add-home-2 c = search needs
-
-mul-home : tie.Need-mul-home
-mul-home c = search needs
-
-shared-slice-read-home : tie.Need-shared-slice-read-home
-shared-slice-read-home c = search needs
-
 cast-home : tie.Need-cast-home
 cast-home c = omega (arith, reading-home _ _ (258 + c .before .args .w) (c .before .pre .1) (omega (arith, c .before .pre .2)), c .before .pre .0 .small, c .before .pre .0 .room)
 
 returns : tie.Need-returns
 returns c = reader-none _ _ _ (c .if1 .taken)
-
-mul-result : tie.Need-mul-result
-mul-result c = search needs
-
-sub-result : tie.Need-sub-result
-sub-result c = search needs
 
 add-result : tie.Need-add-result
 add-result c = omega (arith, reading-home _ _ (258 + c .before .before .args .w) (c .before .before .pre .1) (omega (arith, c .before .before .pre .2)), c .before .before .pre .0 .small, c .before .before .pre .0 .room)
@@ -61,19 +28,19 @@ pub last-reader-spec : {M : Type 1} → statement M
 last-reader-spec =
     tie.close
     (tie.spec
-    mul-homes
-    add-homes
-    add-homes-2
-    mul-homes-2
-    add-homes-3
-    add-home
-    add-home-2
-    mul-home
-    shared-slice-read-home
+    (λ c. search needs)
+    (λ c. search needs)
+    (λ c. search needs)
+    (λ c. search needs)
+    (λ c. search needs)
+    (λ c. search needs)
+    (λ c. search needs)
+    (λ c. search needs)
+    (λ c. search needs)
     cast-home
     returns
-    mul-result
-    sub-result
+    (λ c. search needs)
+    (λ c. search needs)
     add-result
     mul-result-2
     shared-slice-read-result

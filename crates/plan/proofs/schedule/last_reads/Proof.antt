@@ -22,12 +22,6 @@ loop-holds c = (omega arith, refl, sym (turns-start (lastNode (c .before .before
 last-node-requires : tie.Need-last-node-requires Inv-loop μ-loop
 last-node-requires c κs = (rw (c .before .before .loop .inv .1) (c .before .before .before .before .before .pre .0), turns-kept _ _ _ _ _ (c .before .before .before .before .before .pre .1) (c .before .before .loop .inv .2), c .before .loop-test .taken)
 
-add-i : tie.Need-add-i Inv-loop μ-loop
-add-i c = search needs
-
-loop-less : tie.Need-loop-less Inv-loop μ-loop
-loop-less c = search needs
-
 loop-again : tie.Need-loop-again Inv-loop μ-loop
 loop-again c = (omega (arith, c .before .before .before .before .loop-test .taken), omega (arith, c .before .before .before .before .before .loop .inv .1), (c .before .before .last-node .ensures) ∙ turns-next (lastNode (c .before .before .before .before .before .before .before .before .args .sizes .nodes) (c .before .before .before .before .before .before .before .before .args .nodes .now)) _ (c .before .before .before .before .before .loop .i) _ (c .before .before .before .before .before .loop .inv .2))
 
@@ -45,8 +39,8 @@ last-reads-spec =
     μ-loop
     loop-holds
     last-node-requires
-    add-i
-    loop-less
+    (λ c. search needs)
+    (λ c. search needs)
     loop-again
     same-length
     returns)

@@ -8,23 +8,8 @@ use borrow.Author.Needs.{needs}
 use Rattle.plan.proofs.schedule.note_reads.Statement.{statement}
 use Rattle.plan.proofs.schedule.note_reads.Tie as tie
 
-operand-count-requires : tie.Need-operand-count-requires
-operand-count-requires c κs = search needs
-
 returns : tie.Need-returns
 returns c = read-none _ _ _ _ _ (c .before .operand-count .ensures) (c .if1 .taken)
-
-mul-at : tie.Need-mul-at
-mul-at c = search needs
-
-add-lhs : tie.Need-add-lhs
-add-lhs c = search needs
-
-mul-lhs : tie.Need-mul-lhs
-mul-lhs c = search needs
-
-shared-slice-read-lhs : tie.Need-shared-slice-read-lhs
-shared-slice-read-lhs c = search needs
 
 cast-lhs : tie.Need-cast-lhs
 cast-lhs c = omega (arith, c .shared-slice-known2 .given (3 * c .before .before .before .before .before .args .i + 1))
@@ -32,29 +17,14 @@ cast-lhs c = omega (arith, c .shared-slice-known2 .given (3 * c .before .before 
 note-read-requires : tie.Need-note-read-requires
 note-read-requires c κs = (roomIn _ _ _ (c .before .before .before .before .before .before .pre .0), c .before .before .before .before .before .before .pre .1, omega (arith, operands-before _ _ _ (c .before .before .before .before .before .before .pre .0) _ (c .before .before .before .before .before .before .pre .2) .0 (omega (arith, c .before .before .before .operand-count .ensures, c .before .before .if1 .left)), c .before .before .before .before .before .before .pre .2), c .before .before .before .before .before .before .pre .2)
 
-same-length : tie.Need-same-length
-same-length c = search needs
-
 returns-2 : tie.Need-returns-2
 returns-2 c = read-one _ _ _ _ _ _ (c .before .before .before .before .before .before .before .operand-count .ensures) (c .if2 .taken) (c .before .before .before .note-read .ensures)
-
-add-rhs : tie.Need-add-rhs
-add-rhs c = search needs
-
-mul-rhs : tie.Need-mul-rhs
-mul-rhs c = search needs
-
-shared-slice-read-rhs : tie.Need-shared-slice-read-rhs
-shared-slice-read-rhs c = search needs
 
 cast-rhs : tie.Need-cast-rhs
 cast-rhs c = omega (arith, c .shared-slice-known3 .given (3 * c .before .before .before .before .before .before .before .before .before .before .before .args .i + 2))
 
 note-read-requires-2 : tie.Need-note-read-requires-2
 note-read-requires-2 c κs = (read-again _ _ _ _ _ (roomIn _ _ _ (c .before .before .before .before .before .before .before .before .before .before .before .before .pre .0)) (c .before .before .before .before .before .before .before .before .before .before .before .before .pre .1) (c .before .before .before .before .before .note-read .ensures) .0, read-again _ _ _ _ _ (roomIn _ _ _ (c .before .before .before .before .before .before .before .before .before .before .before .before .pre .0)) (c .before .before .before .before .before .before .before .before .before .before .before .before .pre .1) (c .before .before .before .before .before .note-read .ensures) .1, omega (arith, operands-before _ _ _ (c .before .before .before .before .before .before .before .before .before .before .before .before .pre .0) _ (c .before .before .before .before .before .before .before .before .before .before .before .before .pre .2) .1 (omega (arith, c .before .before .before .before .before .before .before .before .before .operand-count .ensures, c .before .before .before .before .before .before .before .before .if1 .left, c .before .before .if2 .left)), c .before .before .before .before .before .before .before .before .before .before .before .before .pre .2), c .before .before .before .before .before .before .before .before .before .before .before .before .pre .2)
-
-same-length-2 : tie.Need-same-length-2
-same-length-2 c = search needs
 
 returns-3 : tie.Need-returns-3
 returns-3 c = read-two _ _ _ _ _ _ _ (c .before .before .before .before .before .before .before .before .before .before .before .before .operand-count .ensures) (c .before .before .before .before .before .before .before .before .before .before .before .if1 .left) (c .before .before .before .before .before .if2 .left) (c .before .before .before .before .before .before .before .before .note-read .ensures) (c .before .before .note-read2 .ensures)
@@ -63,20 +33,20 @@ pub note-reads-spec : {M : Type 1} → statement M
 note-reads-spec =
     tie.close
     (tie.spec
-    operand-count-requires
+    (λ c κs. search needs)
     returns
-    mul-at
-    add-lhs
-    mul-lhs
-    shared-slice-read-lhs
+    (λ c. search needs)
+    (λ c. search needs)
+    (λ c. search needs)
+    (λ c. search needs)
     cast-lhs
     note-read-requires
-    same-length
+    (λ c. search needs)
     returns-2
-    add-rhs
-    mul-rhs
-    shared-slice-read-rhs
+    (λ c. search needs)
+    (λ c. search needs)
+    (λ c. search needs)
     cast-rhs
     note-read-requires-2
-    same-length-2
+    (λ c. search needs)
     returns-3)

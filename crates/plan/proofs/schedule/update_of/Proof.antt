@@ -5,20 +5,8 @@ use borrow.Author.Needs.{needs}
 use Rattle.plan.proofs.schedule.update_of.Statement.{statement}
 use Rattle.plan.proofs.schedule.update_of.Tie as tie
 
-mul-result : tie.Need-mul-result
-mul-result c = search needs
-
-shared-slice-read-result : tie.Need-shared-slice-read-result
-shared-slice-read-result c = search needs
-
 returns : tie.Need-returns
 returns c = update-state (c .before .before .args .updates .now) (c .before .before .args .stores .now) (c .before .before .args .w) (c .before .if1 .taken)
-
-mul-result-2 : tie.Need-mul-result-2
-mul-result-2 c = search needs
-
-shared-slice-read-result-2 : tie.Need-shared-slice-read-result-2
-shared-slice-read-result-2 c = search needs
 
 returns-2 : tie.Need-returns-2
 returns-2 c = update-delay (c .before .before .args .updates .now) (c .before .before .args .stores .now) (c .before .before .args .w) (omega (arith, c .before .if1 .left))
@@ -27,9 +15,9 @@ pub update-of-spec : {M : Type 1} → statement M
 update-of-spec =
     tie.close
     (tie.spec
-    mul-result
-    shared-slice-read-result
+    (λ c. search needs)
+    (λ c. search needs)
     returns
-    mul-result-2
-    shared-slice-read-result-2
+    (λ c. search needs)
+    (λ c. search needs)
     returns-2)
