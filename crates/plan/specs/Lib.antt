@@ -33,6 +33,7 @@ pub mod ChainLaws
 pub mod ControlShare
 -- what the plan leaves in the table for each phase
 pub mod Shares
+pub mod FirstLaws
 -- the Rust's own forms: definitions, and that they give the same plan
 pub mod RustPlan
 pub mod Worklist
