@@ -119,7 +119,7 @@ module _ (sizes : Sizes) (nodes : List ℕ) (words : ℕ) (lent : Lent sizes nod
   descends-in false invariant work i below e = ap not (hoistable-in invariant work i below e)
 
   -- its operands are nodes
-  operand-below : (i : ℕ) → i < sizes .nodes → (n : ℕ) → T (member n (operandsIn nodes i)) → n < sizes .nodes
+  pub operand-below : (i : ℕ) → i < sizes .nodes → (n : ℕ) → T (member n (operandsIn nodes i)) → n < sizes .nodes
   unfolding operandsIn
   operand-below i below n t =
       let before = operands-before sizes nodes words lent i below in

@@ -34,6 +34,10 @@ pub mod ControlShare
 -- what the plan leaves in the table for each phase
 pub mod Shares
 pub mod FirstLaws
+-- the sample schedule by words is the plan's
+pub mod ReadOrder
+pub mod ChainOrder
+pub mod OrderLaws
 -- the Rust's own forms: definitions, and that they give the same plan
 pub mod RustPlan
 pub mod Worklist
