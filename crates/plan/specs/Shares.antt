@@ -10,7 +10,7 @@ use Rattle.plan.specs.Lists.{countUp}
 use Rattle.plan.specs.Nodes.{Flow}
 use Rattle.plan.specs.Origins.{Origin, hasOrigin, canonical, homeOf}
 use Rattle.plan.specs.Schedule.{planOf}
-use Rattle.plan.specs.Layout.{taskWord, neededAt, slotsAt, canonicalAt, freshAt, lastAt, tasksAt, homesAt, headsAt}
+use Rattle.plan.specs.Layout.{taskWord, neededAt, slotsAt, canonicalAt, freshAt, lastAt, tasksAt, homesAt, headsAt, chainAt}
 use Rattle.plan.specs.Regions.{Region, flags}
 use Rattle.plan.specs.ControlShare.{neededOf}
 
@@ -40,6 +40,7 @@ pub record SampleBegins (sizes : Sizes) (flow : Flow) (table : List ℕ) : Type 
   pub homes : NoHomes sizes table
   pub lasts : (k : ℕ) → k < sizes .nodes → getD table (lastAt sizes + k) 0 ≡ 0
   pub heads : (a : ℕ) → a ≤ sizes .nodes → getD table (headsAt sizes + a) 0 ≡ 0
+  pub chains : (w : ℕ) → w < sizes .states + sizes .delays → getD table (chainAt sizes + w) 0 ≡ 0
 
 -- the sample phase's share: the first nodes of its sources, and its tasks
 pub record SampleShare (sizes : Sizes) (flow : Flow) (old new : List ℕ) : Type 0 where
