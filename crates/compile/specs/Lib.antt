@@ -9,6 +9,8 @@ pub mod Gives
 -- document 01's bounds: `compile-bounds`, `counts-fit`, `call-lengths`; every word is below 2^32: `compile-words`
 pub mod PhasesFit
 pub mod Bounds
+-- what the allocator asks for, from what the plan leaves
+pub mod PhaseTables
 pub mod SmallWords
 -- the Rust's own forms give the same kernel: `compile-rust`, `block-rust`
 pub mod RustCompile

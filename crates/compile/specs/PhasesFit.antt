@@ -1,19 +1,20 @@
 -- How many steps both phases emit: `flow-fits`. Assumes nothing.
 use mathlib.Core.Path.{_≡_, refl}
 use mathlib.Core.Bool.{Bool, _&&_, false, not, true}
-use mathlib.Core.List.{List, []}
-use Prim.Native.Nat.{_*_, _+_, _<_, _≤_, ℕ}
+use mathlib.Core.List.{List, [], _∷_}
+use Prim.Native.Nat.{_*_, _+_, _<_, _≤_, suc, zero, ℕ}
 use native.Mathlib.Omega.{arith}
 use lib.ListN.{getD, length, length-append}
-use lib.Dec.{T, T-not}
-use Rattle.plan.specs.Lists.{member, countUp, count}
-use Rattle.plan.specs.Nodes.{isComputed, nodeAt, Flow}
+use lib.Dec.{T, T-not, eqb, eqb-refl}
+use Rattle.tables.specs.Tests.{is-false}
+use Rattle.plan.specs.Lists.{member, filter, countUp, count}
+use Rattle.plan.specs.Nodes.{Node, inputNode, networkNode, constantNode, parameterNode, stateNode, delayNode, binaryNode, unaryNode, operands, isComputed, nodeAt, Flow}
 use Rattle.plan.specs.Hoist.{hoistable, controlComputations}
 use Rattle.plan.specs.Origins.{hasOrigin, originAt}
 use Rattle.plan.specs.Schedule.{writesFrom, schedule, controlTasks, sampleComputations, writes, planOf}
-use Rattle.plan.specs.TestLaws.{and-first, and-second, and-both}
+use Rattle.plan.specs.TestLaws.{or-first, and-first, and-second, and-both}
 use Rattle.plan.specs.ListLaws.{count-le, filter-length, filter-member, count-up-below, count-up-length, passing-apart, passing-le}
-use Rattle.plan.specs.OriginLaws.{number-length}
+use Rattle.plan.specs.OriginLaws.{number-length, sample-at, sample-none}
 use Rattle.plan.specs.Planned.{GoodFlow, in-comps, comp-plain, cneed-inv, inv, need, homes, slots, ss, cneed, cs, comps, ccomps, homes-length}
 use Rattle.allocate.specs.State.{Setting, State, begin}
 use Rattle.allocate.specs.Allocator.{allocate}
@@ -54,27 +55,68 @@ abbrev Both : Setting → List ℕ → ℕ → State → Type 0
 Both e home cost s = Ran e home cost (begin e) s × (s .slots ≤ e .fixed + length (s .steps))
 
 module _ (b : Flow) (v : GoodFlow b) where
-  -- no node is computed in both phases
+  -- is node n computed in the control phase
+  abbrev inControl : ℕ → Bool
+  inControl n = getD (cneed b v) n false && isComputed (nodeAt (b .nodes) n)
+
+  -- .. in the sample phase
+  abbrev inSample : ℕ → Bool
+  inSample n = getD (need b v) n false && not (hasOrigin (originAt (ss b v) n))
+
+  -- no node is computed in both
+  not-both : (n : ℕ) → T (inControl n) → T (inSample n) → ⊥
+  unfolding hoistable
+  not-both n tp tq =
+      let c : T (getD (cneed b v) n false) = and-first (getD (cneed b v) n false) (isComputed (nodeAt (b .nodes) n)) tp in
+      let i = cneed-inv b v n c in
+      T-not (hoistable (b .nodes) (inv b v) n)
+      (comp-plain b v n (in-comps b v n (i .0) (and-first (getD (need b v) n false) (not (hasOrigin (originAt (ss b v) n))) tq)
+      (and-second (getD (need b v) n false) (not (hasOrigin (originAt (ss b v) n))) tq)))
+      (and-both (getD (inv b v) n false) (isComputed (nodeAt (b .nodes) n)) (i .1)
+      (and-second (getD (cneed b v) n false) (isComputed (nodeAt (b .nodes) n)) tp))
+
+  -- no more are computed than there are nodes
   pub phases : length (ccomps b v) + length (comps b v) ≤ length (b .nodes)
-  unfolding controlComputations sampleComputations hoistable
+  unfolding controlComputations sampleComputations
   phases =
-      let p : ℕ → Bool = λ n. getD (cneed b v) n false && isComputed (nodeAt (b .nodes) n) in
-      let q : ℕ → Bool = λ n. getD (need b v) n false && not (hasOrigin (originAt (ss b v) n)) in
       let all : List ℕ = countUp 0 (length (b .nodes)) in
-      omega (
-        arith,
-        filter-length p all,
-        filter-length q all,
-        count-up-length 0 (length (b .nodes)),
-        passing-apart p q all (λ n tp tq.
-            let c : T (getD (cneed b v) n false) = and-first (getD (cneed b v) n false) (isComputed (nodeAt (b .nodes) n)) tp in
-            let i = cneed-inv b v n c in
-            T-not (hoistable (b .nodes) (inv b v) n)
-            (comp-plain b v n (in-comps b v n (i .0) (and-first (getD (need b v) n false) (not (hasOrigin (originAt (ss b v) n))) tq)
-            (and-second (getD (need b v) n false) (not (hasOrigin (originAt (ss b v) n))) tq)))
-            (and-both (getD (inv b v) n false) (isComputed (nodeAt (b .nodes) n)) (i .1)
-            (and-second (getD (cneed b v) n false) (isComputed (nodeAt (b .nodes) n)) tp))),
-      )
+      omega (arith, filter-length inControl all, filter-length inSample all, count-up-length 0 (length (b .nodes)), passing-apart inControl inSample all not-both)
+
+  -- node 0 is not computed: no node stands before it
+  first-plain : isComputed (nodeAt (b .nodes) 0) ≡ false
+  first-plain = go (nodeAt (b .nodes) 0) (v .ordered 0)
+    where
+      go : (x : Node) → ((a : ℕ) → T (member a (operands x)) → a < 0) → isComputed x ≡ false
+      go inputNode h = refl
+      go networkNode h = refl
+      go (constantNode w) h = refl
+      go (parameterNode i) h = refl
+      go (stateNode i) h = refl
+      go (delayNode i) h = refl
+      go (binaryNode k x y) h = absurd (omega (arith, h x (or-first (eqb x x) (member x (y ∷ [])) (eqb-refl x))))
+      go (unaryNode k x) h = absurd (omega (arith, h x (or-first (eqb x x) false (eqb-refl x))))
+
+  -- so at least one is not computed
+  pub phases-but-one : length (ccomps b v) + length (comps b v) + 1 ≤ length (b .nodes)
+  unfolding controlComputations sampleComputations
+  phases-but-one = go (length (b .nodes)) refl
+    where
+      control-plain : inControl 0 ≡ false
+      control-plain = is-false (inControl 0) (λ t. rw first-plain at (and-second (getD (cneed b v) 0 false) (isComputed (nodeAt (b .nodes) 0)) t))
+
+      sample-plain : inSample 0 ≡ false
+      sample-plain =
+          is-false (inSample 0) (λ t.
+          let e = sample-at (slots b v) (b .nodes) 0 (omega (arith, v .output)) in
+          let c = sample-none (getD (slots b v) 0 0) (nodeAt (b .nodes) 0) (rw e at (and-second (getD (need b v) 0 false) (not (hasOrigin (originAt (ss b v) 0))) t)) in
+          rw first-plain at (c .1))
+
+      go : (n : ℕ) → length (b .nodes) ≡ n → length (filter inControl (countUp 0 n)) + length (filter inSample (countUp 0 n)) + 1 ≤ n
+      go zero e = absurd (omega (arith, v .output))
+      go (suc n) e =
+          let all : List ℕ = countUp 1 n in
+          rw (control-plain, sample-plain)
+          (omega (arith, filter-length inControl all, filter-length inSample all, count-up-length 1 n, passing-apart inControl inSample all not-both))
 
   -- the control phase's run
   pub control-ran : (mask : ℕ)
