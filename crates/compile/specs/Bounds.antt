@@ -21,26 +21,17 @@ use Rattle.expand.specs.Graph.{Graph, mappedUpdate, graphOf}
 use Rattle.expand.specs.GraphLaws.{good-graph}
 use Rattle.plan.specs.Flow.{flowOf}
 use Rattle.plan.specs.FlowLaws.{flow-length, good-flow}
-use Rattle.allocate.specs.Actions.{Action, Operation, load, compute, spill, reload, storeState, storeDelay, storeOutput, storeControl}
+use Rattle.allocate.specs.Actions.{Action, load, compute, spill, reload, storeState, storeDelay, storeOutput, storeControl}
+use Rattle.allocate.specs.ActionWords.{operationIn, operationsIn, steps-length, instructions-length}
 use Rattle.allocate.specs.State.{Allocated, allocated, allLocked, andThen}
 use Rattle.allocate.specs.Outcomes.{allocated-is, not-allocated, post-at}
 use Rattle.compile.specs.Draft.{Draft, usable, compileFlow}
-use Rattle.compile.specs.Words.{Compiled, compiledOf, operationIn, operationsIn, stepWords, instructionWords}
+use Rattle.compile.specs.Words.{Compiled, compiledOf}
 use Rattle.compile.specs.Compile.{compile}
 use Rattle.compile.specs.Call.{mostSteps, memoryCount, Tables, tables, tooShort, shorter, compileJudged, compiledTables, tablesAfter, compileCall, zeroPast, expansionAfter, workWords}
 use Rattle.compile.specs.PhasesFit.{DraftFits, flow-fits, usable-sixteen}
 
 -- ---- the words of a draft
-
--- two words a step
-pub steps-length : (number : ℕ) (actions : List Action) → length (stepWords number actions) ≡ 2 * length actions
-steps-length number [] = refl
-steps-length number (x ∷ xs) = omega (arith, steps-length (number + length (operationIn x)) xs)
-
--- two words an instruction
-pub instructions-length : (operations : List Operation) → length (instructionWords operations) ≡ 2 * length operations
-instructions-length [] = refl
-instructions-length (x ∷ xs) = omega (arith, instructions-length xs)
 
 one-operation : (x : Action) → length (operationIn x) ≤ 1
 one-operation (load c r) = omega arith

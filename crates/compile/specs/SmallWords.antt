@@ -34,12 +34,13 @@ use Rattle.plan.specs.OriginLaws.{number-lt, number-length, sample-at, sample-l
 use Rattle.plan.specs.Planned.{GoodFlow, AllWrites, all-filter, homes, homes-length, slots, ss, cs, comps, ccomps}
 use Rattle.plan.specs.FlowLaws.{flow-length, flow-at, flow-off, good-flow}
 use Rattle.allocate.specs.Actions.{Operation, loadImmediate, binary, unary, Action, load, compute, spill, reload, storeState, storeDelay, storeOutput, storeControl, instructionOf}
+use Rattle.allocate.specs.ActionWords.{stepOf, operationIn, operationsIn, stepWords, instructionWords}
 use Rattle.allocate.specs.State.{allocated, Setting, State, begin}
 use Rattle.allocate.specs.Allocator.{allocate}
 use Rattle.allocate.specs.Outcomes.{Post, post-bind, post-at}
 use Rattle.allocate.specs.WordLaws.{AllActions, all-map, all-append, actionIndex, actionImmediate, immediateOf, Fine, FineOrigin, FineTasks, FineState, run-fine}
 use Rattle.compile.specs.Draft.{Draft, controlSetting, sampleSetting, draftOf, compilePlan, compileFlow}
-use Rattle.compile.specs.Words.{Compiled, compiledOf, stepOf, operationIn, operationsIn, stepWords, instructionWords}
+use Rattle.compile.specs.Words.{Compiled, compiledOf}
 use Rattle.compile.specs.Compile.{compile}
 use Rattle.compile.specs.Bounds.{from-draft, Fits, compile-bounds}
 

@@ -23,11 +23,12 @@ use Rattle.checker.specs.Check.{listingOf}
 use Rattle.checker.specs.Passing.{Passes}
 use Rattle.checker.specs.PassingLaws.{passes-exactly}
 use Rattle.allocate.specs.Actions.{Action, storeOutput}
+use Rattle.allocate.specs.ActionWords.{operationsIn}
 use Rattle.allocate.specs.State.{allocated}
 use Rattle.allocate.specs.Outcomes.{post-at}
 use Rattle.plan.specs.Flow.{flowOf}
 use Rattle.compile.specs.Draft.{Draft, compileFlow}
-use Rattle.compile.specs.Words.{Compiled, compiledOf, operationsIn}
+use Rattle.compile.specs.Words.{Compiled, compiledOf}
 use Rattle.compile.specs.Compile.{compile}
 use Rattle.compile.specs.Bounds.{from-draft}
 use Rattle.compiled.specs.Marks.{startMarks}

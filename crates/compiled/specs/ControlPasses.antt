@@ -18,8 +18,8 @@ use Rattle.checker.specs.Walk as Checker
 use Rattle.checker.specs.Walk.{Listing, Held, held, withRegister, afterStep}
 use Rattle.plan.specs.Lists.{isSome}
 use Rattle.allocate.specs.Actions.{Action, load, compute, spill, reload, storeState, storeDelay, storeOutput, storeControl}
+use Rattle.allocate.specs.ActionWords.{stepOf}
 use Rattle.compile.specs.Draft.{usable}
-use Rattle.compile.specs.Words.{stepOf}
 use Rattle.compiled.specs.Marks.{Marks, Rules, goes, loadedClass, walkAction, not-goes}
 use Rattle.compiled.specs.Meanings.{rules, leafCode}
 use Rattle.compiled.specs.Went.{put-register, put-slot, in-mask, Okay, held-in-mask}

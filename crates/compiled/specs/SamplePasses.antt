@@ -18,9 +18,9 @@ use Rattle.checker.specs.Walk as Checker
 use Rattle.checker.specs.Walk.{Listing, Held, held, fetched, asked, movedClass, withRegister, afterStep, stepPasses}
 use Rattle.plan.specs.Lists.{isSome}
 use Rattle.allocate.specs.Actions.{Action, load, compute, spill, reload, storeState, storeDelay, storeOutput, storeControl}
+use Rattle.allocate.specs.ActionWords.{stepOf}
 use Rattle.allocate.specs.Invariants.{some-lt}
 use Rattle.compile.specs.Draft.{usable}
-use Rattle.compile.specs.Words.{stepOf}
 use Rattle.compiled.specs.Marks.{Marks, Rules, goes, loadedClass, walkAction, not-goes}
 use Rattle.compiled.specs.Meanings.{rules, leafCode, classWord}
 use Rattle.compiled.specs.Went.{put-register, put-slot, put-stored, in-mask, Okay, held-in-mask}

@@ -13,7 +13,7 @@ use Rattle.kernel.specs.Steps.{stepWord, stepIndex, stepRegister, stepAt}
 use Rattle.kernel.specs.Instructions.{instructionWord, instructionImmediate, instructionAt}
 use Rattle.kernel.specs.RoundTrips.{step-read-back, instruction-read-back}
 use Rattle.allocate.specs.Actions.{Operation, Action, load, compute, spill, reload, storeState, storeDelay, storeOutput, storeControl, instructionOf}
-use Rattle.compile.specs.Words.{stepOf, operationIn, operationsIn, stepWords, instructionWords}
+use Rattle.allocate.specs.ActionWords.{stepOf, operationIn, operationsIn, stepWords, instructionWords}
 use Rattle.compiled.specs.Operations.{operation-registers}
 use Rattle.compiled.specs.Went.{ActionSmall, AllSmall}
 

@@ -18,8 +18,8 @@ use Rattle.kernel.specs.declared.Kernel.{Kernel}
 use Rattle.kernel.specs.Steps.{stepAt}
 use Rattle.checker.specs.Walk.{Listing, Held, afterStep, emptied, walked, wordsPass, nothingMissing}
 use Rattle.allocate.specs.Actions.{Action, storeOutput}
+use Rattle.allocate.specs.ActionWords.{stepOf, operationIn}
 use Rattle.compile.specs.Draft.{usable}
-use Rattle.compile.specs.Words.{stepOf, operationIn}
 use Rattle.compiled.specs.Marks.{Marks, goes, walkAction, walkActions}
 use Rattle.compiled.specs.Went.{Okay, go-on-goes, action-after}
 use Rattle.compiled.specs.Stands.{Stands}
