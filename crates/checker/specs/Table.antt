@@ -13,6 +13,7 @@ use Rattle.kernel.specs.declared.Step.the-variants.{Load, Compute, Spill, Reloa
 use Rattle.kernel.specs.declared.InstructionWords.{InstructionWords}
 use Rattle.kernel.specs.declared.InstructionWords.the-variants as InstructionWords
 use Rattle.kernel.specs.Instructions.{destination, instructionAt}
+use Rattle.classes.specs.Start.{indexLength}
 use Rattle.classes.specs.Index.{Indexed}
 use Rattle.checker.specs.declared.Terms.{Terms}
 use Rattle.checker.specs.Walk.{Held, held, Listing, listing}
@@ -34,27 +35,27 @@ abbrev pub listingFrom : Terms → List ℕ → List ℕ → List ℕ → List �
 listingFrom p nodes updates stores steps instructions =
     listing (graphFrom p nodes updates stores) (p .parameters) (p .mask) (p .kernel) steps instructions
 
--- ---- where each region begins
+-- ---- where each region begins: behind the words of the index, 7 * count + 32
 abbrev pub registersAt : Terms → ℕ
-registersAt p = 3 * p .count + 32
+registersAt p = indexLength (p .count)
 
 abbrev pub outputAt : Terms → ℕ
-outputAt p = 3 * p .count + 48
+outputAt p = 7 * p .count + 48
 
 abbrev pub statesAt : Terms → ℕ
-statesAt p = 3 * p .count + 49
+statesAt p = 7 * p .count + 49
 
 abbrev pub delaysAt : Terms → ℕ
-delaysAt p = 3 * p .count + 49 + p .states
+delaysAt p = 7 * p .count + 49 + p .states
 
 abbrev pub controlAt : Terms → ℕ
-controlAt p = 3 * p .count + 49 + p .states + p .delays
+controlAt p = 7 * p .count + 49 + p .states + p .delays
 
 abbrev pub spillsAt : Terms → ℕ
-spillsAt p = 3 * p .count + 49 + p .states + p .delays + p .kernel .slots
+spillsAt p = 7 * p .count + 49 + p .states + p .delays + p .kernel .slots
 
 abbrev pub tableEnd : Terms → ℕ
-tableEnd p = 3 * p .count + 49 + p .states + p .delays + p .kernel .slots + p .kernel .spills
+tableEnd p = 7 * p .count + 49 + p .states + p .delays + p .kernel .slots + p .kernel .spills
 
 -- what a work table holds
 unfoldable pub heldOf : Terms → List ℕ → Held

@@ -31,6 +31,7 @@ use Rattle.kernel.specs.declared.Phase.{Phase}
 use Rattle.kernel.specs.declared.Phase.the-variants.{Control, Sample}
 use Rattle.kernel.specs.Steps.{stepAt}
 use Rattle.kernel.specs.Lists.{sizes, stepMayRun}
+use Rattle.classes.specs.Start.{indexLength}
 use Rattle.classes.specs.Index.{Fresh, Indexed, indexed-above}
 use Rattle.checker.specs.declared.Terms.{Terms}
 use Rattle.checker.specs.Walk.{Held, Listing, stepInMask, outputOnlyLast, movedClass, afterStep, afterWords, emptied, entered, walked, beforeControl, stepPasses, wordsPass, controlPasses, samplePasses, storedIfAsked, nothingMissing, controlAnswer, walkAnswer}
@@ -216,11 +217,11 @@ module _ (a k : ℕ) (l : List ℕ) (h : a + k ≤ length l) where
   zeroed-after : (b n : ℕ) → a + k ≤ b → part b n (zeroed a k l) ≡ part b n l
   zeroed-after b n q = ap (part b n) zeroed-put ∙ put-after a k l (zeros k) h (zeros-length k) b n q
 
-indexed-sets : {count : ℕ} {nodes : List ℕ} (t : List ℕ) → Indexed count nodes t → (k : ℕ) (vs : List ℕ) → 3 * count + 32 ≤ k → Indexed count nodes (sets t k vs)
+indexed-sets : {count : ℕ} {nodes : List ℕ} (t : List ℕ) → Indexed count nodes t → (k : ℕ) (vs : List ℕ) → indexLength count ≤ k → Indexed count nodes (sets t k vs)
 indexed-sets t x k [] h = x
 indexed-sets t x k (v ∷ vs) h = indexed-sets (set t k v) (indexed-above x k v h) (suc k) vs (omega arith)
 
-indexed-zeroed : {count : ℕ} {nodes : List ℕ} (t : List ℕ) → Indexed count nodes t → (k n : ℕ) → 3 * count + 32 ≤ k → Indexed count nodes (zeroed k n t)
+indexed-zeroed : {count : ℕ} {nodes : List ℕ} (t : List ℕ) → Indexed count nodes t → (k n : ℕ) → indexLength count ≤ k → Indexed count nodes (zeroed k n t)
 unfolding zeroed
 indexed-zeroed t x k n h = indexed-sets t x k (zeros n) h
 
@@ -295,7 +296,7 @@ module _ (p : Terms) (nodes updates stores steps instructions t : List ℕ) (fit
   pub fit-ready : Ready p nodes updates stores instructions t′
   fit-ready = record { indexed = x; room = rw long (fit .room); coded = fit .coded; states = fit .states; delays = fit .delays }
 
-  pub fit-held : ((i : ℕ) → 3 * p .count + 32 ≤ i → getD t′ i 0 ≡ 0) → heldOf p t′ ≡ emptied (listingFrom p nodes updates stores steps instructions)
+  pub fit-held : ((i : ℕ) → indexLength (p .count) ≤ i → getD t′ i 0 ≡ 0) → heldOf p t′ ≡ emptied (listingFrom p nodes updates stores steps instructions)
   unfolding heldOf emptied
   fit-held z =
       let h = fit .room in

@@ -54,21 +54,21 @@ pub fn register_at(terms: Terms, work: &[u32], index: u32) -> u32
     requires { ⌜ tableEnd terms ≤ length (now work) ⌝ }
     ensures { λ r. ⌜ r ≡ register (heldOf terms (now (work .entry))) index ⌝ }
 {
-    read_in(work, 3 * terms.count + 32, 16, index as usize)
+    read_in(work, 7 * terms.count + 32, 16, index as usize)
 }
 
 pub fn output_at(terms: Terms, work: &[u32]) -> u32
     requires { ⌜ tableEnd terms ≤ length (now work) ⌝ }
     ensures { λ r. ⌜ r ≡ heldOf terms (now (work .entry)) .outputStored ⌝ }
 {
-    read_in(work, 3 * terms.count + 48, 1, 0)
+    read_in(work, 7 * terms.count + 48, 1, 0)
 }
 
 pub fn state_at(terms: Terms, work: &[u32], state: usize) -> u32
     requires { ⌜ tableEnd terms ≤ length (now work) ⌝ }
     ensures { λ r. ⌜ r ≡ getD (heldOf terms (now (work .entry)) .statesStored) state 0 ⌝ }
 {
-    read_in(work, 3 * terms.count + 49, terms.states, state)
+    read_in(work, 7 * terms.count + 49, terms.states, state)
 }
 
 pub fn delay_at(terms: Terms, work: &[u32], delay: usize) -> u32
@@ -77,7 +77,7 @@ pub fn delay_at(terms: Terms, work: &[u32], delay: usize) -> u32
 {
     read_in(
         work,
-        3 * terms.count + 49 + terms.states,
+        7 * terms.count + 49 + terms.states,
         terms.delays,
         delay,
     )
@@ -87,7 +87,7 @@ pub fn control_at(terms: Terms, work: &[u32], slot: u32) -> u32
     requires { ⌜ tableEnd terms ≤ length (now work) ⌝ }
     ensures { λ r. ⌜ r ≡ getD (heldOf terms (now (work .entry)) .control) slot 0 ⌝ }
 {
-    let base = 3 * terms.count + 49 + terms.states + terms.delays;
+    let base = 7 * terms.count + 49 + terms.states + terms.delays;
     read_in(work, base, terms.kernel.slots as usize, slot as usize)
 }
 
@@ -95,7 +95,7 @@ pub fn spill_at(terms: Terms, work: &[u32], slot: u32) -> u32
     requires { ⌜ tableEnd terms ≤ length (now work) ⌝ }
     ensures { λ r. ⌜ r ≡ getD (heldOf terms (now (work .entry)) .spills) slot 0 ⌝ }
 {
-    let base = 3 * terms.count + 49 + terms.states + terms.delays + (terms.kernel.slots as usize);
+    let base = 7 * terms.count + 49 + terms.states + terms.delays + (terms.kernel.slots as usize);
     read_in(work, base, terms.kernel.spills as usize, slot as usize)
 }
 
@@ -153,7 +153,7 @@ fn put_register(terms: Terms, work: &mut [u32], index: u32, class: u32)
     requires { ⌜ tableEnd terms ≤ length (now work) ⌝ }
     ensures { λ _. ⌜ now (work .exit) ≡ putIn (registersAt terms) 16 index class (now (work .entry)) ⌝ }
 {
-    let base = 3 * terms.count + 32;
+    let base = 7 * terms.count + 32;
     put_in(work, base, 16, index as usize, class);
 }
 
@@ -170,7 +170,7 @@ fn put_slot(terms: Terms, work: &mut [u32], slot: u32, class: u32)
     requires { ⌜ tableEnd terms ≤ length (now work) ⌝ }
     ensures { λ _. ⌜ now (work .exit) ≡ putIn (controlAt terms) (terms .kernel .slots) slot class (now (work .entry)) ⌝ }
 {
-    let base = 3 * terms.count + 49 + terms.states + terms.delays;
+    let base = 7 * terms.count + 49 + terms.states + terms.delays;
     put_in(
         work,
         base,
@@ -184,7 +184,7 @@ fn put_spill(terms: Terms, work: &mut [u32], slot: u32, class: u32)
     requires { ⌜ tableEnd terms ≤ length (now work) ⌝ }
     ensures { λ _. ⌜ now (work .exit) ≡ putIn (spillsAt terms) (terms .kernel .spills) slot class (now (work .entry)) ⌝ }
 {
-    let base = 3 * terms.count + 49 + terms.states + terms.delays + (terms.kernel.slots as usize);
+    let base = 7 * terms.count + 49 + terms.states + terms.delays + (terms.kernel.slots as usize);
     put_in(
         work,
         base,
@@ -198,7 +198,7 @@ fn mark_state(terms: Terms, work: &mut [u32], state: u32)
     requires { ⌜ tableEnd terms ≤ length (now work) ⌝ }
     ensures { λ _. ⌜ now (work .exit) ≡ putIn (statesAt terms) (terms .states) state 1 (now (work .entry)) ⌝ }
 {
-    let base = 3 * terms.count + 49;
+    let base = 7 * terms.count + 49;
     put_in(work, base, terms.states, state as usize, 1);
 }
 
@@ -206,7 +206,7 @@ fn mark_delay(terms: Terms, work: &mut [u32], delay: u32)
     requires { ⌜ tableEnd terms ≤ length (now work) ⌝ }
     ensures { λ _. ⌜ now (work .exit) ≡ putIn (delaysAt terms) (terms .delays) delay 1 (now (work .entry)) ⌝ }
 {
-    let base = 3 * terms.count + 49 + terms.states;
+    let base = 7 * terms.count + 49 + terms.states;
     put_in(work, base, terms.delays, delay as usize, 1);
 }
 
@@ -214,7 +214,7 @@ fn mark_output(terms: Terms, work: &mut [u32])
     requires { ⌜ tableEnd terms ≤ length (now work) ⌝ }
     ensures { λ _. ⌜ now (work .exit) ≡ putIn (outputAt terms) 1 0 1 (now (work .entry)) ⌝ }
 {
-    let base = 3 * terms.count + 48;
+    let base = 7 * terms.count + 48;
     put_in(work, base, 1, 0, 1);
 }
 

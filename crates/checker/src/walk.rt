@@ -164,8 +164,8 @@ fn enter(terms: Terms, work: &mut [u32])
     requires { ⌜ tableEnd terms ≤ length (now work) ⌝ }
     ensures { λ _. ⌜ now (work .exit) ≡ enteredTable terms (now (work .entry)) ⌝ }
 {
-    let registers = 3 * terms.count + 32;
-    let spills = 3 * terms.count + 49 + terms.states + terms.delays + (terms.kernel.slots as usize);
+    let registers = 7 * terms.count + 32;
+    let spills = 7 * terms.count + 49 + terms.states + terms.delays + (terms.kernel.slots as usize);
     tables::zero_part(work, registers, registers + 16);
     tables::zero_part(work, spills, spills + (terms.kernel.spills as usize));
 }
@@ -200,10 +200,10 @@ fn nothing_missing(terms: Terms, updates: &[u32], stores: &[u32], work: &[u32]) 
     requires { ⌜ (tableEnd terms ≤ length (now work)) × ((length (now updates) ≡ terms .states) × (length (now stores) ≡ terms .delays)) ⌝ }
     ensures { λ r. ⌜ r ≡ missesNothing (now (updates .entry)) (now (stores .entry)) (heldOf terms (now (work .entry))) ⌝ }
 {
-    if !stored_if_asked(updates, work, 3 * terms.count + 49) {
+    if !stored_if_asked(updates, work, 7 * terms.count + 49) {
         return false;
     }
-    if !stored_if_asked(stores, work, 3 * terms.count + 49 + terms.states) {
+    if !stored_if_asked(stores, work, 7 * terms.count + 49 + terms.states) {
         return false;
     }
     table::output_at(terms, work) != 0

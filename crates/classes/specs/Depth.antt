@@ -13,7 +13,7 @@ use Rattle.tables.specs.Stores.{Each, Word}
 use Rattle.block.specs.Block.{code, first, second}
 use Rattle.classes.specs.Classes.{isOperand, keyOf, firstKey, secondKey, classesTo}
 use Rattle.classes.specs.ClassLaws.{class-at, ownFirst, ownSecond, ownKeys, keys-of, class-says}
-use Rattle.classes.specs.Tree.{Place, root-place, child-place, Stops, empty, found, pass, passes}
+use Rattle.classes.specs.Tree.{Place, atRoot, atChild, Stops, empty, found, pass, passes}
 use Rattle.classes.specs.Digits.{digit, limit, agree-all, Spot, top}
 use Rattle.classes.specs.Cells.{Good, Index, Walk, spot-met, spot-next}
 use Rattle.classes.specs.Index.{Filled}
@@ -37,7 +37,7 @@ module _ (nodes : List ℕ) (count : ℕ) (ok : Good nodes count) (n : ℕ) (tab
   short-from {at = at} {a = a} {d = d} m h o u r (pass {p = p} z w s) =
       let (l, (e, (f, g))) = spot-met nodes count ok n table i c x y m at p o u z in
       let k : m < bits * 2 = before l e g (eq-or-lt-of-le h) in
-      let v = short-from (suc m) (omega arith) (child-place count n p a l (i .upto))
+      let v = short-from (suc m) (omega arith) (atChild p a l refl)
       (spot-next nodes count ok n table i c x y m at p a o u z (sym (r 0 ∙ ap (λ k. digit k x y) (let u : 0 + m ≡ m = omega arith in u))))
       (λ j. r (suc j) ∙ ap (λ k. digit k x y) (let u : suc j + m ≡ j + suc m = omega arith in u)) s in
       omega arith
@@ -53,7 +53,7 @@ module _ (nodes : List ℕ) (count : ℕ) (ok : Good nodes count) (n : ℕ) (tab
   pub walk-short : {stop : ℕ} → c < 32 → (w : Walk nodes count table c x y stop) → looks w ≤ bits * 2 + 1
   unfolding looks
   walk-short h w =
-      let k = short-from 0 (omega arith) (root-place count n c h) (top refl refl) (λ j. ap (λ k. digit k x y) (let u : j ≡ j + 0 = omega arith in u)) w in
+      let k = short-from 0 (omega arith) (atRoot c x y h refl) (top refl refl) (λ j. ap (λ k. digit k x y) (let u : j ≡ j + 0 = omega arith in u)) w in
       omega arith
 
 -- ---- the keys' bits

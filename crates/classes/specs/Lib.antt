@@ -2,6 +2,8 @@
 pub mod Classes
 -- what a class is, and what `find` finds
 pub mod ClassLaws
+-- where walks begin
+pub mod Start
 -- a tree on the bits of keys, in a table of words
 pub mod Tree
 -- where keys belong in the tree

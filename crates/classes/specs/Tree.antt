@@ -1,6 +1,6 @@
--- A tree on the bits of keys, in a table of words. A cell holds 0, or a node's number and one; node p has the two cells count + 2 p and count + 2 p + 1, and
--- the 32 cells from 3 count on are where the walks for each code begin. The walk for a key looks at a cell: it stops where the cell is empty or its node has the
--- key, else it goes on to the cell of that node that the next bit names. The bits of a pair (x, y) are taken in turn, lowest first.
+-- A tree on the bits of keys, in a table of words. A cell holds 0, or a node's number and one; node p has four words from `keyAt count p` on, its two keys and its
+-- two cells, and behind the words of all nodes lie the cells where the walks begin (Start). The walk for a key looks at a cell: it stops where the cell is empty or
+-- its node has the key, else it goes on to the cell of that node that the next bit names. The bits of a pair (x, y) are taken in turn, lowest first.
 -- Nothing here depends on which bits are taken: they only keep the walks short (Depth). Assumes nothing.
 use mathlib.Core.Path.{_≡_, sym, ap, _∙_, subst}
 use mathlib.Core.Bool.{Bool, true, false}
@@ -11,23 +11,41 @@ use native.Mathlib.Omega.{arith}
 use lib.ListN.{length, getD, set}
 use lib.Seq.{getD-set-same, getD-set-other}
 use Rattle.tables.specs.Tests.{clash}
+use Rattle.classes.specs.Start.{indexLength, root, root-low, root-high}
 
 -- ---- cells
 
--- the cell where the walks for code c begin
-unfoldable pub root : ℕ → ℕ → ℕ
-root count c = 3 * count + c
+-- the first of the two words for node p's keys
+unfoldable pub keyAt : ℕ → ℕ → ℕ
+keyAt count p = count + p * 4
+
+-- keys stand behind the classes, two words for each node
+pub key-low : (count p : ℕ) → count ≤ keyAt count p
+unfolding keyAt
+key-low count p = omega arith
+
+pub key-high : (count p : ℕ) → p < count → keyAt count p + 1 < 5 * count
+unfolding keyAt
+key-high count p h = omega arith
+
+pub key-apart : (count p q : ℕ) → (p ≡ q → ⊥) → (keyAt count p ≡ keyAt count q → ⊥) × ((keyAt count p ≡ keyAt count q + 1 → ⊥) × (keyAt count p + 1 ≡ keyAt count q → ⊥))
+unfolding keyAt
+key-apart count p q h = (λ e. h (omega arith), (λ e. omega arith, λ e. omega arith))
 
 -- the cell of node p that the lowest bit of x names
 unfoldable pub child : ℕ → ℕ → ℕ → ℕ
-child count p x = count + p * 2 + x % 2
+child count p x = count + p * 4 + 2 + x % 2
 
-pub child-low : (count p x : ℕ) → count + p * 2 ≤ child count p x
-unfolding child
+child-low : (count p x : ℕ) → keyAt count p + 2 ≤ child count p x
+unfolding child keyAt
 child-low count p x = omega arith
 
-pub child-high : (count p x : ℕ) → child count p x < count + p * 2 + 2
+cell-low : (count p x : ℕ) → count ≤ child count p x
 unfolding child
+cell-low count p x = omega arith
+
+child-high : (count p x : ℕ) → child count p x < keyAt count p + 4
+unfolding child keyAt
 child-high count p x = let h : x % 2 < 2 = mod-lt x (omega arith) in omega arith
 
 -- no two nodes share a cell
@@ -38,29 +56,34 @@ child-same count p x q y e =
     let l : y % 2 < 2 = mod-lt y (omega arith) in
     (omega arith, omega arith)
 
-pub root-child : (count c p x : ℕ) → p < count → root count c ≡ child count p x → ⊥
-unfolding root
-root-child count c p x h e = let g = child-high count p x in omega arith
-
-pub root-same : (count c d : ℕ) → root count c ≡ root count d → c ≡ d
-unfolding root
-root-same count c d e = omega arith
+pub root-child : (count c x y p z : ℕ) → p < count → root count c x y ≡ child count p z → ⊥
+unfolding keyAt
+root-child count c x y p z h e = let g = child-high count p z in let l = root-low count c x y in omega arith
 
 -- a cell that a walk may reach while the first n nodes are in
-pub record Place (count n k : ℕ) : Type 0 where
-  pub low : count ≤ k
-  pub high : k < 3 * count + 32
-  pub near : k < 3 * count → k < count + n * 2
+pub data Place (count n k : ℕ) : Type 0 where
+  atRoot : (c x y : ℕ) → c < 32 → k ≡ root count c x y → Place count n k
+  atChild : (p x : ℕ) → p < n → k ≡ child count p x → Place count n k
 
-pub root-place : (count n c : ℕ) → c < 32 → Place count n (root count c)
-unfolding root
-root-place count n c h = record { low = omega arith; high = omega arith; near = λ l. absurd (omega arith) }
+pub place-more : {count n m k : ℕ} → n ≤ m → Place count n k → Place count m k
+place-more h (atRoot c x y l e) = atRoot c x y l e
+place-more h (atChild p x l e) = atChild p x (omega arith) e
 
-pub child-place : (count n p x : ℕ) → p < n → n ≤ count → Place count n (child count p x)
-child-place count n p x h u =
-    let l = child-low count p x in
-    let g = child-high count p x in
-    record { low = omega arith; high = omega arith; near = λ _. omega arith }
+pub place-low : {count n k : ℕ} → Place count n k → count ≤ k
+unfolding keyAt
+place-low {count} (atRoot c x y l e) = let h = root-low count c x y in omega arith
+place-low {count} (atChild p x l e) = let h = child-low count p x in omega arith
+
+pub place-high : {count n k : ℕ} → n ≤ count → Place count n k → k < indexLength count
+unfolding keyAt
+place-high {count} h (atRoot c x y l e) = let g = root-high count c x y l in omega arith
+place-high {count} h (atChild p x l e) = let g = child-high count p x in omega arith
+
+-- no cell is a word for keys
+pub place-key : {count n k : ℕ} → n ≤ count → Place count n k → (p : ℕ) → p < count → (k ≡ keyAt count p → ⊥) × (k ≡ keyAt count p + 1 → ⊥)
+unfolding keyAt
+place-key {count} h (atRoot c x y l e) p b = let g = root-low count c x y in (λ q. omega arith, λ q. omega arith)
+place-key {count} h (atChild r x l e) p b = let g = child-low count r x in let i = child-high count r x in (λ q. omega arith, λ q. omega arith)
 
 -- ---- the walk
 
@@ -124,10 +147,10 @@ module _ {hit : ℕ → Bool} {count : ℕ} {table : List ℕ} where
   stops-off {at = at} k v l o (empty q z) = empty q (getD-set-other table k at v 0 (λ r. omega arith) ∙ z)
   stops-off {at = at} k v l o (found q z y) = found q (getD-set-other table k at v 0 (λ r. omega arith) ∙ z) y
   stops-off {at = at} {x = x} k v l o (pass {p = p} z n s) =
-      pass (getD-set-other table k at v 0 (λ r. omega arith) ∙ z) n (stops-off k v l (omega (arith, child-low count p x)) s)
+      pass (getD-set-other table k at v 0 (λ r. omega arith) ∙ z) n (stops-off k v l (cell-low count p x) s)
 
   -- a walk that begins at a cell stops at one
   pub stops-far : {at x y stop : ℕ} → count ≤ at → Stops hit count table at x y stop → count ≤ stop
   stops-far o (empty q z) = rw q o
   stops-far o (found q z h) = rw q o
-  stops-far {x = x} o (pass {p = p} z h s) = stops-far (let u = child-low count p x in omega arith) s
+  stops-far {x = x} o (pass {p = p} z h s) = stops-far (cell-low count p x) s

@@ -1,16 +1,18 @@
 // The classes of expanded nodes, found by an index in a lent table instead of a scan (document 01, "What the step checker passes").
 //
-// The work table for N nodes: words 0..N are the classes, so `work[node]` is a node's class; N + 2 * node + bit are the two cells of a node in a tree on the
-// bits of keys; 3 * N + code are the 32 cells where the walks begin. What lies behind belongs to the caller. A walk looks at no more than 65 cells,
-// whatever the block (specs/Depth.antt).
+// The work table for N nodes: words 0..N are the classes, so `work[node]` is a node's class; from N + 4 * node on stand a node's two keys and its two cells in a
+// tree on the bits of keys, so that a look at a node reads one place; from 5 * N on are the cells where the walks begin, N / 16 + 1 for each code (specs/Start.antt).
+// What lies behind 7 * N + 32 belongs to the caller. A walk begins among few nodes, and looks at no more than 65 cells whatever the block (specs/Depth.antt).
 ghost use mathlib.Core.Path.{_≡_};
 ghost use Prim.Native.Nat.{ℕ, _+_, _*_, _≤_, _<_};
 ghost use lib.ListN.{length, getD};
-ghost use Rattle.classes.specs.Classes.{isOperand, keyOf, firstKey, secondKey, hasKeys, find};
+ghost use Rattle.block.specs.Limits.{mostNodes};
+ghost use Rattle.classes.specs.Classes.{isOperand, keyOf, firstKey, secondKey, find};
+ghost use Rattle.classes.specs.Start.{indexLength, later, bucketOf, root};
 ghost use Rattle.classes.specs.Cells.{Walk};
-ghost use Rattle.classes.specs.Index.{Fresh, Filled, Indexed, Ready};
+ghost use Rattle.classes.specs.Index.{Fresh, Filled, Indexed, Ready, keysAt};
 
-// Whether the first word of a node of this code is an operand. By the code's number, not its kind: this is asked for every node that a walk looks at.
+// Whether the first word of a node of this code is an operand. By the code's number, not its kind: this is asked for every node.
 fn first_is_operand(code: u32) -> bool
     ensures { λ r. ⌜ r ≡ isOperand code 0 ⌝ }
 {
@@ -62,18 +64,49 @@ fn second_key(nodes: &[u32], work: &[u32], node: usize) -> u32
     key(work, operand, nodes[3 * node + 2])
 }
 
-// Whether a node has this code and these keys.
-fn has_keys(nodes: &[u32], work: &[u32], node: usize, code: u32, x: u32, y: u32) -> bool
-    requires { ⌜ 3 * node + 2 < length (now nodes) ⌝ }
-    ensures { λ r. ⌜ r ≡ hasKeys (now (nodes .entry)) (now (work .entry)) code x y node ⌝ }
+// The larger of two words: of two operands the later.
+fn later(x: u32, y: u32) -> u32
+    ensures { λ r. ⌜ r ≡ later x y ⌝ }
 {
-    if nodes[3 * node] != code {
+    if x < y {
+        return y;
+    }
+    x
+}
+
+// Which of a code's start cells is that of a word: near words have near cells, and a word past them is spread.
+fn bucket_of(count: usize, word: u32) -> usize
+    ensures { λ r. ⌜ r ≡ bucketOf count word ⌝ }
+{
+    let buckets = count / 16 + 1;
+    let wide = word as usize;
+    let near = wide / 16;
+    if near < buckets {
+        return near;
+    }
+    wide * 2654435769 % 4294967296 / 65536 % buckets
+}
+
+// The cell where the walk for a code and two keys begins.
+fn root(count: usize, code: u32, x: u32, y: u32) -> usize
+    requires { ⌜ (count ≤ mostNodes) × (code < 32) ⌝ }
+    ensures { λ r. ⌜ r ≡ root count code x y ⌝ }
+{
+    let buckets = count / 16 + 1;
+    let before = (code as usize) * buckets;
+    let bucket = bucket_of(count, later(x, y));
+    5 * count + before + bucket
+}
+
+// Whether the two words from a place on are these keys.
+fn has_keys(work: &[u32], at: usize, x: u32, y: u32) -> bool
+    requires { ⌜ at + 1 < length (now work) ⌝ }
+    ensures { λ r. ⌜ r ≡ keysAt (now (work .entry)) at x y ⌝ }
+{
+    if work[at] != x {
         return false;
     }
-    if first_key(nodes, work, node) != x {
-        return false;
-    }
-    second_key(nodes, work, node) == y
+    work[at + 1] == y
 }
 
 // The cell where the walk for a key stops: empty, or with the node that has the key.
@@ -81,16 +114,17 @@ fn find_cell(nodes: &[u32], work: &[u32], count: usize, code: u32, x: u32, y: u3
     requires { ⌜ Ready count (now nodes) (now work) × (code < 32) ⌝ }
     ensures { λ r. ⌜ Walk (now (nodes .entry)) count (now (work .entry)) code x y r ⌝ }
 {
-    let mut cell = 3 * count + code as usize;
+    let mut cell = root(count, code, x, y);
     let mut next = x;
     let mut after = y;
     let mut word = work[cell];
     while 0 < word {
         let node = (word - 1) as usize;
-        if has_keys(nodes, work, node, code, x, y) {
+        let at = count + node * 4;
+        if has_keys(work, at, x, y) {
             return cell;
         }
-        cell = count + node * 2 + (next % 2) as usize;
+        cell = at + 2 + (next % 2) as usize;
         let rest = next / 2;
         next = after;
         after = rest;
@@ -112,7 +146,7 @@ pub fn lookup(nodes: &[u32], work: &[u32], count: usize, code: u32, x: u32, y: u
 fn insert(nodes: &[u32], work: &mut [u32], count: usize, node: usize)
     requires { ⌜ Filled count node (now nodes) (now work) × (node < count) ⌝ }
     ensures { λ _. ⌜ Filled count (node + 1) (now (nodes .entry)) (now (work .exit))
-        × ((i : ℕ) → 3 * count + 32 ≤ i → getD (now (work .exit)) i 0 ≡ getD (now (work .entry)) i 0) ⌝ }
+        × ((i : ℕ) → indexLength count ≤ i → getD (now (work .exit)) i 0 ≡ getD (now (work .entry)) i 0) ⌝ }
 {
     let code = nodes[3 * node];
     let x = first_key(nodes, work, node);
@@ -120,6 +154,9 @@ fn insert(nodes: &[u32], work: &mut [u32], count: usize, node: usize)
     let cell = find_cell(nodes, work, count, code, x, y);
     let word = work[cell];
     if word == 0 {
+        let at = count + node * 4;
+        work[at] = x;
+        work[at + 1] = y;
         work[cell] = node as u32 + 1;
         work[node] = node as u32;
         return;
@@ -131,7 +168,7 @@ fn insert(nodes: &[u32], work: &mut [u32], count: usize, node: usize)
 fn insert_all(nodes: &[u32], work: &mut [u32], count: usize)
     requires { ⌜ Filled count 0 (now nodes) (now work) ⌝ }
     ensures { λ _. ⌜ Indexed count (now (nodes .entry)) (now (work .exit))
-        × ((i : ℕ) → 3 * count + 32 ≤ i → getD (now (work .exit)) i 0 ≡ getD (now (work .entry)) i 0) ⌝ }
+        × ((i : ℕ) → indexLength count ≤ i → getD (now (work .exit)) i 0 ≡ getD (now (work .entry)) i 0) ⌝ }
 {
     let mut node: usize = 0;
     while node < count {
@@ -144,7 +181,7 @@ fn insert_all(nodes: &[u32], work: &mut [u32], count: usize)
 pub fn prepare(nodes: &[u32], work: &mut [u32], count: usize)
     requires { ⌜ Fresh count (now nodes) (now work) ⌝ }
     ensures { λ _. ⌜ Indexed count (now (nodes .entry)) (now (work .exit))
-        × ((i : ℕ) → 3 * count + 32 ≤ i → getD (now (work .exit)) i 0 ≡ 0) ⌝ }
+        × ((i : ℕ) → indexLength count ≤ i → getD (now (work .exit)) i 0 ≡ 0) ⌝ }
 {
     tables::zero(work);
     insert_all(nodes, work, count);

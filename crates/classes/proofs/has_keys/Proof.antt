@@ -1,22 +1,18 @@
 -- `classes::has_keys` meets its contract. Assumes nothing.
 use borrow.Author.Tests.{eq-eqb, ne-eqb}
 use Rattle.tables.specs.Tests.{_&_}
-use Rattle.classes.specs.Classes.{hasKeys}
+use Rattle.classes.specs.Index.{keysAt}
 use borrow.Author.Needs.{needs}
 use Rattle.classes.proofs.has_keys.Statement.{statement}
 use Rattle.classes.proofs.has_keys.Tie as tie
 
 returns : tie.Need-returns
-unfolding hasKeys _&_
+unfolding keysAt _&_
 returns c = rw (ne-eqb _ _ (c .if1 .taken))
 
 returns-2 : tie.Need-returns-2
-unfolding hasKeys _&_
-returns-2 c = rw (eq-eqb _ _ (c .before .before .if1 .left), ← c .before .first-key .ensures, ne-eqb _ _ (c .if2 .taken))
-
-returns-3 : tie.Need-returns-3
-unfolding hasKeys _&_
-returns-3 c = rw (eq-eqb _ _ (c .before .before .before .if1 .left), ← c .before .before .first-key .ensures, eq-eqb _ _ (c .before .if2 .left), ← c .second-key .ensures)
+unfolding keysAt _&_
+returns-2 c = rw (eq-eqb _ _ (c .before .if1 .left))
 
 pub has-keys-spec : {M : Type 1} → statement M
 has-keys-spec =
@@ -24,9 +20,8 @@ has-keys-spec =
     (tie.spec
     (λ c. search needs)
     (λ c. search needs)
-    (λ c. search needs)
     returns
-    (λ c κs. search needs)
-    returns-2
-    (λ c κs. search needs)
-    returns-3)
+    (λ c. search needs)
+    (λ c. search needs)
+    (λ c. search needs)
+    returns-2)

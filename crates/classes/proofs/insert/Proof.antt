@@ -15,20 +15,23 @@ mul-word c = omega (arith, walk-in (filled-ready (c .before .before .before .bef
 slice-read-word : tie.Need-slice-read-word
 slice-read-word c = walk-in (filled-ready (c .before .before .before .before .before .before .before .before .before .before .pre .0)) _ _ _ _ (code-small (c .before .before .before .before .before .before .before .before .before .before .pre .0) (c .before .before .before .before .before .before .before .before .before .before .pre .1)) (c .before .find-cell .ensures) .0
 
-mul-work : tie.Need-mul-work
-mul-work c = omega (arith, walk-in (filled-ready (c .before .before .before .before .before .before .before .before .before .before .before .pre .0)) _ _ _ _ (code-small (c .before .before .before .before .before .before .before .before .before .before .before .pre .0) (c .before .before .before .before .before .before .before .before .before .before .before .pre .1)) (c .before .before .find-cell .ensures) .1, c .before .before .before .before .before .before .before .before .before .before .before .pre .0 .small)
-
-slice-write-work : tie.Need-slice-write-work
-slice-write-work c = walk-in (filled-ready (c .before .before .before .before .before .before .before .before .before .before .before .pre .0)) _ _ _ _ (code-small (c .before .before .before .before .before .before .before .before .before .before .before .pre .0) (c .before .before .before .before .before .before .before .before .before .before .before .pre .1)) (c .before .before .find-cell .ensures) .0
-
 slice-write-work-2 : tie.Need-slice-write-work-2
 slice-write-work-2 c = simp length-set (omega (arith, ready-room (filled-ready (c .before .before .before .before .before .before .before .before .before .before .before .pre .0)), c .before .before .before .before .before .before .before .before .before .before .before .pre .1))
+
+mul-work-3 : tie.Need-mul-work-3
+mul-work-3 c = omega (arith, walk-in (filled-ready (c .before .before .before .before .before .before .before .before .before .before .before .pre .0)) _ _ _ _ (code-small (c .before .before .before .before .before .before .before .before .before .before .before .pre .0) (c .before .before .before .before .before .before .before .before .before .before .before .pre .1)) (c .before .before .find-cell .ensures) .1, c .before .before .before .before .before .before .before .before .before .before .before .pre .0 .small)
+
+slice-write-work-3 : tie.Need-slice-write-work-3
+slice-write-work-3 c = simp length-set (walk-in (filled-ready (c .before .before .before .before .before .before .before .before .before .before .before .pre .0)) _ _ _ _ (code-small (c .before .before .before .before .before .before .before .before .before .before .before .pre .0) (c .before .before .before .before .before .before .before .before .before .before .before .pre .1)) (c .before .before .find-cell .ensures) .0)
+
+slice-write-work-4 : tie.Need-slice-write-work-4
+slice-write-work-4 c = simp length-set (omega (arith, ready-room (filled-ready (c .before .before .before .before .before .before .before .before .before .before .before .pre .0)), c .before .before .before .before .before .before .before .before .before .before .before .pre .1))
 
 returns : tie.Need-returns
 returns c = filled-new (c .before .before .before .before .before .before .before .before .before .before .before .pre .0) (c .before .before .before .before .before .before .before .before .before .before .before .pre .1) _ _ _ (c .before .before .before .before .before .before .first-key .ensures) (c .before .before .before .before .second-key .ensures) (c .before .before .find-cell .ensures) (c .if1 .taken)
 
-slice-write-work-3 : tie.Need-slice-write-work-3
-slice-write-work-3 c = omega (arith, ready-room (filled-ready (c .before .before .before .before .before .before .before .before .before .before .before .pre .0)), c .before .before .before .before .before .before .before .before .before .before .before .pre .1)
+slice-write-work-5 : tie.Need-slice-write-work-5
+slice-write-work-5 c = omega (arith, ready-room (filled-ready (c .before .before .before .before .before .before .before .before .before .before .before .pre .0)), c .before .before .before .before .before .before .before .before .before .before .before .pre .1)
 
 returns-2 : tie.Need-returns-2
 returns-2 c = filled-old (c .before .before .before .before .before .before .before .before .before .before .before .pre .0) (c .before .before .before .before .before .before .before .before .before .before .before .pre .1) _ _ _ (c .before .before .before .before .before .before .first-key .ensures) (c .before .before .before .before .second-key .ensures) (c .before .before .find-cell .ensures) (c .if1 .left)
@@ -47,15 +50,22 @@ insert-spec =
     slice-read-word
     (λ c. search needs)
     (λ c. search needs)
-    mul-work
-    slice-write-work
+    (λ c. search needs)
+    (λ c. search needs)
     (λ c. search needs)
     (λ c. search needs)
     slice-write-work-2
     (λ c. search needs)
+    (λ c. search needs)
+    mul-work-3
+    slice-write-work-3
+    (λ c. search needs)
+    (λ c. search needs)
+    slice-write-work-4
+    (λ c. search needs)
     returns
     (λ c. search needs)
     (λ c. search needs)
-    slice-write-work-3
+    slice-write-work-5
     (λ c. search needs)
     returns-2)

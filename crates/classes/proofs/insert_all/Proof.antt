@@ -1,15 +1,16 @@
 -- `classes::insert_all` meets its contract. Assumes nothing.
 use mathlib.Core.Path.{_≡_, refl, _∙_, subst}
 use native.Mathlib.Omega.{arith}
-use Prim.Native.Nat.{ℕ, _+_, _*_, _-_, _≤_}
+use Prim.Native.Nat.{ℕ, _-_, _≤_}
 use lib.ListN.{length, getD}
+use Rattle.classes.specs.Start.{indexLength}
 use Rattle.classes.specs.Index.{Filled}
 use borrow.Author.Needs.{needs}
 use Rattle.classes.proofs.insert_all.Statement.{statement}
 use Rattle.classes.proofs.insert_all.Tie as tie
 
 abbrev Inv-loop : tie.InvT-loop
-Inv-loop nodes work₀ count node₀ work node = (length work ≡ length work₀) × ((node ≤ count) × (Filled count node nodes work × ((i : ℕ) → 3 * count + 32 ≤ i → getD work i 0 ≡ getD work₀ i 0)))
+Inv-loop nodes work₀ count node₀ work node = (length work ≡ length work₀) × ((node ≤ count) × (Filled count node nodes work × ((i : ℕ) → indexLength count ≤ i → getD work i 0 ≡ getD work₀ i 0)))
 
 abbrev μ-loop : tie.MeasureT-loop
 μ-loop nodes work₀ count node₀ work node = count - node
