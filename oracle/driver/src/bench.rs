@@ -81,7 +81,8 @@ pub fn run(ours: &mut Ours) {
 
 pub fn run_checks(ours: &mut Ours) {
     checks(ours, "plain", plain_chain);
-    checks(ours, "keys that collide", colliding_chain);
+    checks(ours, "constants that collide", colliding_constants);
+    checks(ours, "operands that collide", colliding_operands);
     checks(ours, "tanh", |count| tanh_block(count / 36, 16));
 }
 
@@ -95,14 +96,33 @@ fn plain_chain(count: usize) -> Tables {
     Tables { version: 1, category: 10, output: count as u32 - 1, nodes, ..Tables::default() }
 }
 
-/// Sums of constants whose bits differ in the high half alone: the worst found for an index by the key's bits, lowest first.
-fn colliding_chain(count: usize) -> Tables {
+/// Sums of constants that all have one start cell in the checker's index (crates/classes/specs/Start.antt) and share their lowest bits, by which the walk
+/// from there goes: the worst found.
+fn colliding_constants(count: usize) -> Tables {
+    let pairs = (count as u32 - 1) / 2;
+    let buckets = (2 * pairs + 1) / 16 + 1;
+    let inverse = (0..5).fold(1u32, |found, _| found.wrapping_mul(2u32.wrapping_sub(found.wrapping_mul(2_654_435_769))));
+    let words = (0u32..).map(|i| (((i / 4_096 * buckets) << 16) + ((i % 4_096) << 4)).wrapping_mul(inverse));
+    let constants = words.filter(|&word| word / 16 >= buckets && f32::from_bits(word).is_finite()).take(pairs as usize);
     let mut nodes = vec![0, 0, 0];
-    for index in (1..count - 1).step_by(2) {
-        nodes.extend([1, (index as u32 / 2 % 0x7f80) << 16, 0, 5, index as u32 - 1, index as u32]);
+    for (constant, index) in constants.zip((1u32..).step_by(2)) {
+        nodes.extend([1, constant, 0, 5, index - 1, index]);
     }
     let output = (nodes.len() / 3 - 1) as u32;
     Tables { version: 1, category: 10, output, nodes, ..Tables::default() }
+}
+
+/// A chain, and the products of its last node with every one before: the later operand, which names the start cell, is the same for all.
+fn colliding_operands(count: usize) -> Tables {
+    let chain = count as u32 / 3;
+    let mut nodes = vec![0, 0, 0];
+    (1..chain).for_each(|index| nodes.extend([5, index - 1, index - 1]));
+    let mut last = chain - 1;
+    for (earlier, product) in (0..chain - 1).zip((chain..).step_by(2)) {
+        nodes.extend([7, chain - 1, earlier, 5, product, last]);
+        last = product + 1;
+    }
+    Tables { version: 1, category: 10, output: last, nodes, ..Tables::default() }
 }
 
 const SAMPLES_CHECKED_AGAINST: usize = 1_000;
