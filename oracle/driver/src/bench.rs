@@ -3,6 +3,7 @@ use std::cell::RefCell;
 use std::hint::black_box;
 use std::time::Instant;
 
+use qcdsp::codegen::compile_with;
 use qcdsp::kernels::KernelTables;
 use qcdsp::tables::Tables;
 use qcdsp::{Block, Processor};
@@ -10,6 +11,7 @@ use qcdsp::{Block, Processor};
 use crate::bench_files;
 use crate::blocks::{Case, Question};
 use crate::checks::Checked;
+use crate::compiles::{self, Lent, rust_says};
 use crate::generate::{plain_block, tanh_block};
 use crate::ours::{Call, Ours};
 use crate::playing::{Play, start, uniform};
@@ -79,6 +81,29 @@ pub fn run(ours: &mut Ours) {
     bench_files::run(ours);
 }
 
+/// Compile against the Rust's, which must give the same list.
+pub fn run_compiles(ours: &mut Ours) {
+    for (name, block) in [
+        ("100 nodes", plain_chain(100)),
+        ("100 nodes, 10 states", state_chain(100, 10)),
+        ("1,000 nodes", plain_chain(1_000)),
+        ("1,000 nodes, 100 states", state_chain(1_000, 100)),
+        ("8,000 nodes, 1,000 states", state_chain(8_000, 1_000)),
+        ("65,536 nodes", plain_chain(65_536)),
+        ("1,820 tanh", tanh_block(1_820, 16)),
+    ] {
+        let rust = block.block(&[]).expect("a block that the Rust can hold");
+        let case = compiles::Case { block, mask: 0xffff, lent: Lent::EXACT };
+        let question = case.question(&rust_says(&case.block, case.mask));
+        let difference = question.difference(&ours.call(question.call()));
+        assert!(question.number == 0 && difference.is_none(), "compile, {name}: {difference:?}");
+        let steps = question.left[4].1[..2].iter().sum::<u32>();
+        compare(ours, &format!("compile, {name}, {steps} steps"), || question.call(), || (), || {
+            black_box(compile_with(black_box(&rust), u16::MAX).is_ok());
+        });
+    }
+}
+
 pub fn run_checks(ours: &mut Ours) {
     checks(ours, "plain", plain_chain);
     checks(ours, "constants that collide", colliding_constants);
@@ -94,6 +119,23 @@ fn plain_chain(count: usize) -> Tables {
         nodes.extend([7 + random.below(3) as u32, index as u32 - 1, random.below(index) as u32]);
     }
     Tables { version: 1, category: 10, output: count as u32 - 1, nodes, ..Tables::default() }
+}
+
+/// Such a chain with a state read in each of its parts, which takes any node.
+fn state_chain(count: usize, states: usize) -> Tables {
+    let random = &mut Random::new(1);
+    let mut nodes = vec![0; 3];
+    let part = (count / states) as u32;
+    for index in 1..count as u32 {
+        let node = match (index - 1) % part {
+            0 => [3, (index - 1) / part, 0],
+            1 => [5, index - 1, index - 2],
+            _ => [7 + random.below(3) as u32, index - 1, random.below(index as usize) as u32],
+        };
+        nodes.extend(node);
+    }
+    let states = (0..states).flat_map(|_| [0, random.below(count) as u32 + 1]).collect();
+    Tables { version: 1, category: 10, output: count as u32 - 1, states, nodes, ..Tables::default() }
 }
 
 /// Sums of constants that all have one start cell in the checker's index (crates/classes/specs/Start.antt) and share their lowest bits, by which the walk

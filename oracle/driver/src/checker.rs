@@ -24,7 +24,7 @@ pub struct Checker<'a> {
 }
 
 /// The operands among a node's two words.
-fn operands(code: u32) -> usize {
+pub fn operands(code: u32) -> usize {
     match code {
         5..=10 => 2,
         12 | 13 => 1,

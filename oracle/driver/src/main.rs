@@ -1,20 +1,27 @@
 //! Compares Lichenstitch with the Rust. Run by ../compare and ../vectors.
 //!
-//! driver SUBJECT OURS SEED COUNT   SUBJECT: words, blocks, runs, checks, files. OURS: the program made of ours/ours.c and the static library
-//! driver bench OURS [checks|files] times both sides, or the step checker or the house file alone
+//! driver SUBJECT OURS SEED COUNT   SUBJECT: words, blocks, runs, checks, files, compiles. OURS: the program made of ours/ours.c and the static
+//! library
+//! driver bench OURS [PART]         times both sides; PART: checks, files or compiles alone
 //! driver vectors SUBJECT           prints vectors with the Rust's answers
+mod allocation;
 mod bench;
 mod bench_files;
 mod blocks;
 mod check_cases;
 mod checker;
 mod checks;
+mod compile_blocks;
+mod compile_cases;
+mod compile_vectors;
+mod compiles;
 mod file_cases;
 mod file_shrink;
 mod files;
 mod filing;
 mod generate;
 mod house;
+mod lowering;
 mod ours;
 mod playing;
 mod random;
@@ -31,7 +38,7 @@ fn main() {
     let arguments: Vec<String> = std::env::args().skip(1).collect();
     let arguments: Vec<&str> = arguments.iter().map(String::as_str).collect();
     match arguments[..] {
-        [subject @ ("words" | "blocks" | "runs" | "checks" | "files"), program, seed, count] => {
+        [subject @ ("words" | "blocks" | "runs" | "checks" | "files" | "compiles"), program, seed, count] => {
             let (seed, count) = (number(seed), number(count));
             let mut ours = Ours::start(program);
             let outcome = match subject {
@@ -39,16 +46,19 @@ fn main() {
                 "blocks" => blocks::compare(&mut ours, seed, count),
                 "runs" => runs::compare(&mut ours, seed, count),
                 "checks" => checks::compare(&mut ours, seed, count),
-                _ => files::compare(&mut ours, seed, count),
+                "files" => files::compare(&mut ours, seed, count),
+                _ => compiles::compare(&mut ours, seed, count),
             };
             report(subject, seed, outcome);
         }
         ["bench", program] => bench::run(&mut Ours::start(program)),
         ["bench", program, "checks"] => bench::run_checks(&mut Ours::start(program)),
         ["bench", program, "files"] => bench_files::run(&mut Ours::start(program)),
+        ["bench", program, "compiles"] => bench::run_compiles(&mut Ours::start(program)),
         ["vectors", "words"] => print!("{}", vectors::words()),
         ["vectors", "blocks"] => print!("{}", vectors::blocks()),
-        _ => panic!("usage: driver words|blocks|runs|checks|files OURS SEED COUNT, driver bench OURS [checks|files], driver vectors words|blocks"),
+        ["vectors", "compiles"] => print!("{}", compile_vectors::compiles()),
+        _ => panic!("usage: driver words|blocks|runs|checks|files|compiles OURS SEED COUNT, driver bench OURS [checks|files|compiles], driver vectors words|blocks|compiles"),
     }
 }
 

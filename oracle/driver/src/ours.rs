@@ -30,6 +30,7 @@ pub enum Function {
     WriteGraph,
     WriteSteps,
     WriteTooMany,
+    Compile,
 }
 
 /// Set in a function's word where ours.c is to time the call.

@@ -8,7 +8,7 @@ use crate::random::Random;
 use crate::spans::{Test, random_span};
 use crate::words::{OPERATIONS, Operation, random_pair, specials};
 
-const SEED: u64 = 2026;
+pub const SEED: u64 = 2026;
 
 const WORDS: &str = "\
 Answers of the Rust, printed
@@ -164,7 +164,11 @@ fn block_lines(case: &Case, most: usize) -> Option<Vec<String>> {
     (lines.len() <= most).then_some(lines)
 }
 
-fn block_line(name: &str, words: &[u32]) -> String {
+pub fn comment(text: &str) -> String {
+    format!("{:<36}\n", format!("# {text}"))
+}
+
+pub fn block_line(name: &str, words: &[u32]) -> String {
     let word = |at| words.get(at).copied().unwrap_or(0);
     format!("{name:<9} {:08x} {:08x} {:08x}\n", word(0), word(1), word(2))
 }
@@ -214,7 +218,6 @@ pub fn blocks() -> String {
     for number in 2..=12 {
         cases.extend(short_cases(&mut random, number, None, FAULTY.0, FAULTY.1));
     }
-    let comment = |text: &str| format!("{:<36}\n", format!("# {text}"));
     let mut lines: Vec<String> = BLOCKS.lines().map(comment).collect();
     for (number, case) in (1..).zip(&cases) {
         let by = if matches!(case.expected().verdict.number, 1 | 13) { ", answer by document 01" } else { "" };
