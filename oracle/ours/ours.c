@@ -126,6 +126,8 @@ static uint32_t call(uint32_t function, uint32_t slices) {
     case 21: return lichenstitch_write_graph_rendering(TABLE(0), BYTES(1, 0), TABLE(2));
     case 22: return lichenstitch_write_step_rendering(TABLE(0), BYTES(1, 0), TABLE(2));
     case 23: return write_too_many();
+    case 24:
+        return lichenstitch_compile(HEADER, BLOCK, scalar[5], TABLE(4), TABLE(5), TABLE(6), TABLE(7), TABLE(8));
     default: _exit(2);
     }
 }

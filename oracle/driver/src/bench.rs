@@ -79,6 +79,7 @@ pub fn run(ours: &mut Ours) {
     }
     run_checks(ours);
     bench_files::run(ours);
+    run_compiles(ours);
 }
 
 /// Compile against the Rust's, which must give the same list.
