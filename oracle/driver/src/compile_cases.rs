@@ -237,6 +237,11 @@ pub fn printed_cases() -> Vec<Case> {
     PRINTED.iter().map(|&(_, sketch, mask, _)| case(sketch, mask)).collect()
 }
 
+/// All ways to slip.
+pub fn slips() -> Vec<Slip> {
+    SLIPS.iter().map(|&(slip, ..)| slip).collect()
+}
+
 pub fn slip_cases() -> Vec<Case> {
     SLIPS.iter().map(|&(_, mask, sketch)| case(sketch, mask)).collect()
 }
@@ -265,7 +270,7 @@ fn ask_slips(ours: &mut Ours) -> Result<usize, String> {
         let name = format!("{slip:?}");
         let said = rust_says(&case.block, mask);
         let Said::Compiled { expanded, lowered } = &said else {
-            return Err(format!("{name}: the Rust compiles it not\n{case}"));
+            return Err(format!("{name}: the Rust does not compile it\n{case}"));
         };
         if lower(expanded, mask as u16, None).0.as_ref() != Some(lowered) {
             return Err(format!("{name}: the driver's own lowering is not the Rust's\n{case}"));

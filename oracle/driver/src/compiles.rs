@@ -12,7 +12,7 @@ use crate::blocks::{Words, needed, random_block, rust_verdict};
 use crate::compile_blocks::{double_masks, full, high_bits, large, mask, narrow, single_masks, small};
 use crate::compile_cases;
 use crate::generate::fault;
-use crate::lowering::{EVENTS, Lowered, lower};
+use crate::lowering::{EVENTS, Lowered, Slip, lower};
 use crate::ours::{Call, Function, Ours};
 use crate::random::Random;
 use crate::runs::{Question, header, tables};
@@ -201,7 +201,12 @@ struct Counts {
     doubles: Vec<(u32, [u64; 2])>,
     /// Blocks in which each event came up.
     events: [u64; EVENTS.len()],
+    /// How many of the first blocks that compile were lowered with each slip, and how often that gave another list.
+    slipped: u64,
+    slips: Vec<(Slip, u64)>,
 }
+
+const SLIPPED: u64 = 20_000;
 
 impl Counts {
     fn new() -> Self {
@@ -216,6 +221,8 @@ impl Counts {
             singles: none(single_masks()),
             doubles: none(double_masks()),
             events: [0; EVENTS.len()],
+            slipped: 0,
+            slips: compile_cases::slips().into_iter().map(|slip| (slip, 0)).collect(),
         }
     }
 
@@ -242,11 +249,21 @@ impl Counts {
             return Err(format!("the driver's own lowering is not the Rust's, but {own:x?}\n{case}"));
         }
         self.events.iter_mut().zip(seen).for_each(|(blocks, seen)| *blocks += u64::from(seen > 0));
-        if let Some(Lowered { kernel, .. }) = own {
+        if let Some(Lowered { kernel, .. }) = &own {
             self.steps += kernel.steps.len() as u64 / 2;
             self.instructions += kernel.instructions.len() as u64 / 2;
+            self.slip(expanded, low as u16, &own);
         }
         Ok(())
+    }
+
+    fn slip(&mut self, expanded: &Tables, mask: u16, own: &Option<Lowered>) {
+        if self.slipped < SLIPPED {
+            self.slipped += 1;
+            for (slip, shown) in &mut self.slips {
+                *shown += u64::from(lower(expanded, mask, Some(*slip)).0 != *own);
+            }
+        }
     }
 }
 
@@ -277,7 +294,8 @@ impl fmt::Display for Counts {
         for (name, blocks) in EVENTS.iter().zip(&self.events) {
             write!(f, "\ncompiles: {blocks:>8} {name}")?;
         }
-        Ok(())
+        let slips: Vec<String> = self.slips.iter().map(|(slip, shown)| format!("{slip:?} {shown}")).collect();
+        write!(f, "\ncompiles: of {} blocks a slip would show in: {}", self.slipped, slips.join(", "))
     }
 }
 
@@ -340,7 +358,8 @@ const LARGE: [([usize; 3], u64); 6] = [
 
 fn compare_large(ours: &mut Ours, seed: u64, count: u64) -> Result<(), String> {
     for ([length, states, delays], one_in) in LARGE {
-        let mut counts = Counts::new();
+        // slips are tried on small blocks alone
+        let mut counts = Counts { slipped: SLIPPED, ..Counts::new() };
         let blocks = if count < one_in && one_in > 12_000 { 0 } else { count / one_in + 1 };
         for number in 0..blocks {
             let random = &mut Random::of_case(seed ^ length as u64, number);
@@ -367,6 +386,9 @@ pub fn compare(ours: &mut Ours, seed: u64, count: u64) -> Result<(), String> {
     println!("{counts}");
     if let Some(at) = (0..EVENTS.len()).find(|&at| counts.events[at] < count / 500) {
         return Err(format!("too few blocks have {}: the generator is to be mended", EVENTS[at]));
+    }
+    if let Some((slip, _)) = counts.slips.iter().find(|(_, shown)| *shown == 0) {
+        return Err(format!("no block shows {slip:?}: the generator is to be mended"));
     }
     if let Some(number) = [0, 13, 14].into_iter().find(|&number| counts.answers[number] < count / 50) {
         return Err(format!("too few blocks have the answer {number}: the generator is to be mended"));
