@@ -38,6 +38,8 @@ pub mod FirstLaws
 pub mod ReadOrder
 pub mod ChainOrder
 pub mod OrderLaws
+-- the sample phase's share, as its functions leave it
+pub mod SampleTable
 -- the Rust's own forms: definitions, and that they give the same plan
 pub mod RustPlan
 pub mod Worklist
