@@ -90,6 +90,12 @@ static uint32_t write_too_many(void) {
     return lichenstitch_write_graph_rendering(from, samples, to, bytes, TABLE(0));
 }
 
+// A size into the two words of a slice, the low one first.
+static uint32_t give_size(size_t size, uint32_t *words) {
+    words[0] = (uint32_t)size, words[1] = (uint32_t)(size >> 32);
+    return 0;
+}
+
 // The functions, in the order of `Function` in driver/src/ours.rs. A word operation goes over whole slices: its
 // operands' words, one slice each, and a last slice for the results.
 static uint32_t call(uint32_t function, uint32_t slices) {
@@ -126,7 +132,9 @@ static uint32_t call(uint32_t function, uint32_t slices) {
     case 21: return lichenstitch_write_graph_rendering(TABLE(0), BYTES(1, 0), TABLE(2));
     case 22: return lichenstitch_write_step_rendering(TABLE(0), BYTES(1, 0), TABLE(2));
     case 23: return write_too_many();
-    case 24:
+    case 24: return give_size(lichenstitch_block_bytes(scalar[0], scalar[1], scalar[2], scalar[3]), last);
+    case 25: return give_size(lichenstitch_rendering_bytes(scalar[0]), last);
+    case 26:
         return lichenstitch_compile(HEADER, BLOCK, scalar[5], TABLE(4), TABLE(5), TABLE(6), TABLE(7), TABLE(8));
     default: _exit(2);
     }

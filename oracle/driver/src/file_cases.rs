@@ -5,6 +5,7 @@ use qcdsp::tables::Tables;
 use crate::files::{Case, Content, Reading, Writing};
 use crate::house::{BLOCK_BYTES, BLOCK_WORDS, EFFECT, GRAPH, STEPS, bytes_of, seal, words_of};
 use crate::ours::{Call, Function, Ours};
+use crate::random::Random;
 
 /// Kernel K: "block A, version 1, category 10, stereo, as a file: used 12, check 0xFFFFFFE6".
 const KERNEL_K: [u32; 15] = [EFFECT, 0, 12, 1, 10, 0, 0, 0, 0, 0, 1, 0, 0, 0, 0];
@@ -225,11 +226,14 @@ fn ask_renderings(ours: &mut Ours) -> Result<usize, String> {
         sealed(&mut more, &[(128, kind), (129, 1)]);
         let more = Case::Read(reading(Function::ReadRendering, &more));
         ask(ours, "a block that uses nothing behind a full one", 21, more)?;
+        let mut over = rendering(kind, 123);
+        sealed(&mut over, &[(2, 125), (3, 124)]);
+        ask(ours, "124 samples in one block", 21, Case::Read(reading(Function::ReadRendering, &over)))?;
         ask_written(ours, "two blocks of a rendering", &Content::Rendering(kind, vec![9; 124]), &long_rendering(kind))?;
     }
     let block = Case::Read(reading(Function::ReadRendering, &kernel_k()));
     ask(ours, "kernel K for the reader of renderings", 21, block)?;
-    Ok(23)
+    Ok(25)
 }
 
 /// The content's file is these words, with just enough bytes and with more; with a byte too few it is 13.
@@ -289,6 +293,32 @@ fn ask_many_samples(ours: &mut Ours) -> Result<usize, String> {
     }
 }
 
+/// How many bytes to lend: "124 payload words" of each 512 bytes.
+fn ask_bytes(ours: &mut Ours) -> Result<usize, String> {
+    let random = &mut Random::new(1);
+    let counts = [0, 1, 2, 40, 122, 123, 124, 247, 248, 0x5555_5555, 0x8000_0000, u32::MAX - 1, u32::MAX];
+    let mut asked: Vec<(Function, Vec<u32>)> = counts.map(|count| (Function::RenderingBytes, vec![count])).to_vec();
+    asked.extend((0..500).map(|_| (Function::BlockBytes, (0..4).map(|_| random.pick(&counts)).collect())));
+    let calls: Vec<Call> = asked
+        .iter()
+        .map(|(function, scalars)| Call {
+            function: *function,
+            scalars: scalars.clone(),
+            slices: vec![&[7, 7]],
+            written: 1,
+        })
+        .collect();
+    for ((function, scalars), answer) in asked.iter().zip(ours.calls(&calls)) {
+        let (widths, head) = if *function == Function::BlockBytes { ([3, 2, 2, 3], 9) } else { ([1; 4], 1) };
+        let words = head + scalars.iter().zip(widths).map(|(&count, width)| u64::from(count) * width).sum::<u64>();
+        let bytes = 512 * words.div_ceil(124);
+        if answer.slices[0] != [bytes as u32, (bytes >> 32) as u32] {
+            return Err(format!("{function:?} of {scalars:x?}: ours {:x?}, not {bytes:x}", answer.slices[0]));
+        }
+    }
+    Ok(asked.len())
+}
+
 pub fn compare(ours: &mut Ours) -> Result<String, String> {
     let mut asked = ask_changed(ours, Function::ReadBlock, &kernel_k(), &OF_K)?;
     asked += ask_changed(ours, Function::ReadBlock, &two_blocks(), &OF_TWO)?;
@@ -297,6 +327,7 @@ pub fn compare(ours: &mut Ours) -> Result<String, String> {
     ask_written(ours, "kernel K", &Content::Block(block_a()), &kernel_k())?;
     let forty = Tables { nodes: vec![0; 3 * 40], ..block_a() };
     ask_written(ours, "two blocks", &Content::Block(forty), &two_blocks())?;
+    asked += ask_bytes(ours)?;
     let many = ask_many_samples(ours)?;
     let not_asked = if many == 0 { ", 2^32 samples not asked for want of memory" } else { "" };
     Ok(format!("{} by name{not_asked}", asked + many + 2))

@@ -30,6 +30,8 @@ pub enum Function {
     WriteGraph,
     WriteSteps,
     WriteTooMany,
+    BlockBytes,
+    RenderingBytes,
     Compile,
 }
 
