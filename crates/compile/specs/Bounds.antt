@@ -43,7 +43,8 @@ one-operation (storeDelay i r) = omega arith
 one-operation (storeOutput r) = omega arith
 one-operation (storeControl k r) = omega arith
 
-operations-le : (xs : List Action) → length (operationsIn xs) ≤ length xs
+-- each compute is a step
+pub operations-le : (xs : List Action) → length (operationsIn xs) ≤ length xs
 operations-le [] = omega arith
 operations-le (x ∷ xs) = omega (arith, operations-le xs, one-operation x, length-append (operationIn x) (operationsIn xs))
 

@@ -5,13 +5,15 @@ use Prim.Native.Nat.{ℕ, _+_, _-_, _*_}
 use lib.ListN.{length, drop}
 use lib.Dec.{ltb}
 use Rattle.tables.specs.Zeros.{zeros}
-use Rattle.answers.specs.Numbers.{Answer, accepted, refused}
+use Rattle.answers.specs.Numbers.{Answer, accepted, refused, refusal}
 use Rattle.answers.specs.Order.{_⨾_, refuse}
 use Rattle.block.specs.Block.{Block, stateCount, delayCount}
 use Rattle.block.specs.Validation.{expandedLength, validation}
 use Rattle.expand.specs.Graph.{graphOf}
 use Rattle.kernel.specs.declared.Kernel.{Kernel}
 use Rattle.allocate.specs.State.{Allocated, allocated, allLocked}
+use Rattle.compile.specs.declared.Compilation.{Compilation}
+use Rattle.compile.specs.declared.Compilation.the-variants.{Accepted, Refused}
 use Rattle.compile.specs.Words.{Compiled}
 use Rattle.compile.specs.Compile.{compile}
 
@@ -61,6 +63,11 @@ tooShort b t =
 pub record Done : Type 0 where
   pub kernel : Kernel
   pub registers : ℕ
+
+-- the code's answer
+abbrev pub answerOf : Compilation → Answer Done
+answerOf (Accepted c) = accepted (record { kernel = c .kernel; registers = c .registers })
+answerOf (Refused r) = refusal r
 
 -- the refusals before anything is written: 1 to 13
 unfoldable pub compileJudged : Block → Tables → Answer Unit

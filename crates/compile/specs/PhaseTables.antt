@@ -48,18 +48,19 @@ use Rattle.allocate.specs.Registers as Registers
 use Rattle.allocate.specs.ActionWords.{operationsIn, stepWords, instructionWords}
 use Rattle.allocate.specs.Outcomes.{post-at}
 use Rattle.allocate.specs.RunLaws.{Ran, costs}
-use Rattle.allocate.specs.Layout.{nextAt, taskAt, homeAt}
+use Rattle.allocate.specs.Layout.{Wide, slotAt, canonicalAt, nextAt, taskAt, homeAt}
 use Rattle.allocate.specs.Desk.{desk}
 use Rattle.allocate.specs.Tasks.{Lent, lent, homeOf, targetOf}
+use Rattle.allocate.specs.Planned.{Planned}
 use Rattle.allocate.specs.TaskReady.{PhaseFits}
 use Rattle.allocate.specs.Links.{linked}
-use Rattle.allocate.specs.Holds.{Written}
+use Rattle.allocate.specs.Holds.{Phase, Written}
 use Rattle.allocate.specs.HoldsBegin.{Begins}
 use Rattle.allocate.specs.HoldsSettings.{Regions, control-phase, sample-phase}
-use Rattle.allocate.specs.HoldsLinks.{Named}
+use Rattle.allocate.specs.HoldsLinks.{Named, Linked, links-hold}
 use Rattle.allocate.specs.HoldsNamed.{TaskFacts, AllFacts, named-is}
 use Rattle.allocate.specs.HoldsNamed as Named
-use Rattle.allocate.specs.HoldsPhase.{PhaseBegins, phase-starts, phase-asks, written-none}
+use Rattle.allocate.specs.HoldsPhase.{PhaseBegins, planned-is, phase-starts, phase-asks, written-none}
 use Rattle.allocate.specs.Scheduled.{number-ok, sample-tasks-ok, control-tasks-ok}
 use Rattle.compile.specs.Draft.{usable, usableBit, controlSetting, sampleSetting}
 use Rattle.compile.specs.Call.{mostSteps}
@@ -112,6 +113,40 @@ some-flags : (marks : List Bool) → map isSome (flags marks) ≡ marks
 some-flags [] = refl
 some-flags (true ∷ marks) = ap (λ (l : List Bool). true ∷ l) (some-flags marks)
 some-flags (false ∷ marks) = ap (λ (l : List Bool). false ∷ l) (some-flags marks)
+
+-- ---- before a phase's tasks are linked
+
+-- what the tables hold then, as the allocator's first layer says it
+pub record PhaseOpens (frame : Frame) (l : Lent) (e : Setting) (tasks : List Task) (work : List ℕ) : Type 0 where
+  pub wide : Wide frame work
+  pub phase : Phase frame (l .nodes) e work
+  pub named : Named frame l e work 0 tasks
+  pub none : part (nextAt frame 0) (frame .nodes) work ≡ replicate (frame .nodes) 0
+  pub few : length tasks ≤ 2 * frame .nodes + frame .states + frame .delays + 1
+  pub sizes : (3 * frame .nodes ≤ length (l .nodes)) × ((frame .states ≤ length (l .updates)) × (frame .delays ≤ length (l .stores)))
+
+module _ (frame : Frame) (l : Lent) (e : Setting) (tasks : List Task) (work : List ℕ) (o : PhaseOpens frame l e tasks work) where
+  -- what linking leaves
+  pub opens-linked : Linked frame l e tasks work (linked frame l (length tasks) work)
+  opens-linked = links-hold frame l e work tasks (o .wide) (o .phase) (o .named) (o .few) (o .none)
+
+  -- what linking asks for: it leaves the plan, so the plan's words are as they are afterwards
+  pub opens-planned : Planned frame l (length tasks) work
+  unfolding homeOf
+  opens-planned =
+      let k = opens-linked in
+      let few = o .few in
+      let q = planned-is frame l e (linked frame l (length tasks) work) (k .phase) tasks (k .tasked) few (o .sizes) in
+      record {
+        canonical = λ i h. rw (k .same (canonicalAt frame i) (inl (omega arith))) at (q .canonical i h);
+        homes = λ memory h.
+            rw (k .same (homeAt frame (cond (ltb memory (frame .states + frame .delays)) (258 + memory) 0)) (inr (inr (omega arith)))) at (q .homes memory h);
+        few = few;
+        tasks = λ p h. rw (k .same (taskAt frame p) (inr (inl (omega arith, omega arith)))) at (q .tasks p h);
+        inside = λ p h. rw (k .same (taskAt frame p) (inr (inl (omega arith, omega arith)))) at (q .inside p h);
+        keeps = λ p i h g z.
+            rw (k .same (slotAt frame i) (inl (omega arith))) at (q .keeps p i h g (k .same (taskAt frame p) (inr (inl (omega arith, omega arith))) ∙ z));
+      }
 
 -- ---- both phases
 
@@ -336,14 +371,14 @@ module _ (sizes : Sizes) (nodes updates stores : List ℕ) (output words : ℕ) 
   unfolding flowOf
   flow-nodes = refl
 
-  flow-count : length (flow .nodes) ≡ sizes .nodes
+  pub flow-count : length (flow .nodes) ≡ sizes .nodes
   flow-count = ap length flow-nodes ∙ nodes-length nodes (sizes .nodes)
 
-  flow-states : length (flow .states) ≡ sizes .states
+  pub flow-states : length (flow .states) ≡ sizes .states
   unfolding flowOf
   flow-states = us
 
-  flow-delays : length (flow .delays) ≡ sizes .delays
+  pub flow-delays : length (flow .delays) ≡ sizes .delays
   unfolding flowOf
   flow-delays = ds
 
@@ -354,7 +389,7 @@ module _ (sizes : Sizes) (nodes updates stores : List ℕ) (output words : ℕ) 
   flow-node : (n : ℕ) → n < sizes .nodes → nodeAt (flow .nodes) n ≡ nodeIn nodes n
   flow-node n h = ap (λ (x : List Node). nodeAt x n) flow-nodes ∙ node-at nodes (sizes .nodes) n h
 
-  slots-count : length (planOf flow .slots) ≡ sizes .nodes
+  pub slots-count : length (planOf flow .slots) ≡ sizes .nodes
   unfolding planOf
   slots-count = number-length 0 (homes flow good) ∙ (homes-length flow good ∙ flow-count)
 
@@ -446,7 +481,7 @@ module _ (sizes : Sizes) (nodes updates stores : List ℕ) (output words : ℕ) 
   unfolding flowOf
   invariant-count = flags-length (invariantOf flow) ∙ invariant-length nodes (sizes .nodes)
 
-  needed-count : length (flags (neededOf flow)) ≡ sizes .nodes
+  pub needed-count : length (flags (neededOf flow)) ≡ sizes .nodes
   unfolding neededBy
   needed-count =
       flags-length (neededOf flow)
@@ -514,7 +549,30 @@ module _ (sizes : Sizes) (nodes updates stores : List ℕ) (output words : ℕ) 
         (inl (omega (arith, slots-count))))
         (inl (omega (arith, slots-count)))
 
-    -- the control phase's share, and then the first nodes of its sources
+    control-needed-held : Region (neededAt sizes) (flags (neededOf flow)) (controlTable sizes flow old)
+    unfolding controlTable
+    control-needed-held =
+        region-kept (neededAt sizes) (flags (neededOf flow)) (tasksAt sizes) taskWords table₄
+        (region-kept (neededAt sizes) (flags (neededOf flow)) (reachedAt sizes) (flags (reachedOf flow)) table₃
+        (region-kept (neededAt sizes) (flags (neededOf flow)) (slotsAt sizes) (planOf flow .slots) table₂
+        (region-written (neededAt sizes) (flags (neededOf flow)) table₁ (omega (arith, needed-count, lends .room, size, written-length 0 (flags (invariantOf flow)) old)))
+        (inl (omega (arith, needed-count))))
+        (inl (omega (arith, needed-count))))
+        (inl (omega (arith, needed-count)))
+
+    -- the control phase's share, and then the first nodes of its sources: what the sample phase needs
+    pub control-needed : NoHomes sizes old
+        → Region (neededAt sizes) (flags (neededOf flow)) (turns (canonicalNode sizes true nodes) (controlTable sizes flow old) (sizes .nodes))
+    unfolding Region
+    control-needed none =
+        let c : List ℕ = controlTable sizes flow old in
+        let room : Plan.Lent sizes nodes (length c) = rw control-length lends in
+        let homeless : NoHomes sizes c = λ k h. control-outside (homesAt sizes + k) (omega arith) (inr (omega arith)) ∙ none k h in (
+          omega (arith, canonical-length sizes true nodes c room homeless, control-needed-held .0),
+          λ i h. canonical-beside sizes true nodes c room homeless (neededAt sizes + i) (inl (omega (arith, needed-count))) ∙ control-needed-held .1 i h,
+        )
+
+    -- the control phase's share, and then the first nodes of its sources: what the control phase does
     pub control-regions : Unheld sizes old → NoHomes sizes old
         → PhaseRegions sizes (planOf flow .slots) (planOf flow .controlTasks) (planOf flow .controlOrigins)
         (turns (canonicalNode sizes true nodes) (controlTable sizes flow old) (sizes .nodes))
@@ -547,6 +605,32 @@ module _ (sizes : Sizes) (nodes updates stores : List ℕ) (output words : ℕ) 
     abbrev lentIn : Lent
     lentIn = lent nodes updates stores output
 
+    -- THE CONTROL PHASE, before its tasks are linked
+    pub control-opens : PhaseRegions sizes (planOf flow .slots) (planOf flow .controlTasks) (planOf flow .controlOrigins) work
+        → PhaseOpens controlFrame lentIn (controlSetting flow (planOf flow) mask) (planOf flow .controlTasks) work
+    unfolding controlSetting planOf
+    control-opens r =
+        let e : Setting = controlSetting flow (planOf flow) mask in
+        let room : Plan.Room sizes (length work) = rw wide (Plan.roomIn sizes nodes words lends) in
+        record {
+          wide = record { some = omega arith; small = room .small; states = room .states; delays = room .delays; wide = room .room };
+          phase = control-phase controlFrame nodes e work (regions-are sizes mask (planOf flow .fixed) true work nodes e flow-nodes refl refl refl (r .firsts)) refl refl;
+          named =
+              tasks-named sizes mask (planOf flow .fixed) true work lentIn e (planOf flow .controlTasks) (r .tasks)
+              (control-facts sizes mask (planOf flow .fixed) true work lentIn e (slots flow good) (ccomps flow good)
+              (λ n t. let c = ccomps-in flow good n t in computed-facts mask (planOf flow .fixed) true work e refl n (rw flow-count at (c .0)) (c .2))
+              (λ n slot h q. (
+                h,
+                (
+                  region-at (slotsAt sizes) (slots flow good) work (slotsAt sizes + n) n (r .slots) refl (rw slots-count h) ∙ q,
+                  omega (arith, number-lt 0 (homes flow good) n slot q .2),
+                ),
+              )));
+          none = no-next sizes mask (planOf flow .fixed) true work room (r .unheld);
+          few = control-few;
+          sizes = sizes-fit;
+        }
+
     -- THE CONTROL PHASE'S START
     pub control-starts : PhaseRegions sizes (planOf flow .slots) (planOf flow .controlTasks) (planOf flow .controlOrigins) work
         → PhaseBegins controlFrame lentIn (controlSetting flow (planOf flow) mask) table program [] (planOf flow .slots) (planOf flow .controlTasks)
@@ -556,21 +640,11 @@ module _ (sizes : Sizes) (nodes updates stores : List ℕ) (output words : ℕ) 
         let e : Setting = controlSetting flow (planOf flow) mask in
         let room : Plan.Room sizes (length work) = rw wide (Plan.roomIn sizes nodes words lends) in
         let long : length (e .origins) ≡ sizes .nodes = length-map (flow .nodes) controlOrigin ∙ flow-count in
+        let o = control-opens r in
         phase-starts controlFrame lentIn e table program [] (planOf flow .slots) (planOf flow .controlTasks)
         (desk work table program (newAllocator (planOf flow .fixed) 0 0))
         (begins-are sizes mask (planOf flow .fixed) true work room (omega arith) e long (r .firsts) (r .unheld) table program 0 0)
-        (control-phase controlFrame nodes e work (regions-are sizes mask (planOf flow .fixed) true work nodes e flow-nodes refl refl refl (r .firsts)) refl refl)
-        (tasks-named sizes mask (planOf flow .fixed) true work lentIn e (planOf flow .controlTasks) (r .tasks)
-        (control-facts sizes mask (planOf flow .fixed) true work lentIn e (slots flow good) (ccomps flow good)
-        (λ n t. let c = ccomps-in flow good n t in computed-facts mask (planOf flow .fixed) true work e refl n (rw flow-count at (c .0)) (c .2))
-        (λ n slot h q. (
-          h,
-          (
-            region-at (slotsAt sizes) (slots flow good) work (slotsAt sizes + n) n (r .slots) refl (rw slots-count h) ∙ q,
-            omega (arith, number-lt 0 (homes flow good) n slot q .2),
-          ),
-        ))))
-        (no-next sizes mask (planOf flow .fixed) true work room (r .unheld))
+        (o .phase) (o .named) (o .none)
         (written-none table program)
         (control-tasks-ok flow good (usable mask) (count (slots flow good)))
         (number-ok (homes flow good))
@@ -593,6 +667,32 @@ module _ (sizes : Sizes) (nodes updates stores : List ℕ) (output words : ℕ) 
     abbrev sampleFrame : Frame
     sampleFrame = frameIn sizes mask 0 false
 
+    -- THE SAMPLE PHASE, before its tasks are linked
+    pub sample-opens : PhaseRegions sizes (planOf flow .slots) (planOf flow .sampleTasks) (planOf flow .sampleOrigins) work
+        → PhaseOpens sampleFrame lentIn (sampleSetting flow (planOf flow) mask) (planOf flow .sampleTasks) work
+    unfolding sampleSetting planOf
+    sample-opens r =
+        let e : Setting = sampleSetting flow (planOf flow) mask in
+        let room : Plan.Room sizes (length work) = rw wide (Plan.roomIn sizes nodes words lends) in
+        record {
+          wide = record { some = omega arith; small = room .small; states = room .states; delays = room .delays; wide = room .room };
+          phase =
+              sample-phase sampleFrame nodes e work (regions-are sizes mask 0 false work nodes e flow-nodes refl refl refl (r .firsts)) refl (slots flow good) refl
+              (region-part (2 * sizes .nodes) (sizes .nodes) (slots flow good) work (r .slots) slots-count) (countsIn sizes) (lends .good);
+          named =
+              tasks-named sizes mask 0 false work lentIn e (planOf flow .sampleTasks) (r .tasks)
+              (schedule-facts sizes mask 0 false work lentIn e (flow .nodes) (ss flow good) (writes flow) (comps flow good) (flow .output) (stored-facts mask 0 false work e)
+              (λ n t.
+              let c = comps-in flow good n t in
+              let h : n < sizes .nodes = rw flow-count at (c .0) in
+              let s = sample-none (getD (slots flow good) n 0) (nodeAt (flow .nodes) n) (rw (sample-at (slots flow good) (flow .nodes) n (c .0)) at (c .2)) in
+              computed-facts mask 0 false work e refl n h (s .1))
+              (rw flow-output (out, inr (inr (refl, (refl, refl))))));
+          none = no-next sizes mask 0 false work room (r .unheld);
+          few = sample-few;
+          sizes = sizes-fit;
+        }
+
     -- THE SAMPLE PHASE'S START, behind the actions of the control phase
     pub sample-starts : PhaseRegions sizes (planOf flow .slots) (planOf flow .sampleTasks) (planOf flow .sampleOrigins) work
         → (prior : List Action) (steps instructions : List ℕ) (k m : ℕ) → Written table program prior steps instructions k m
@@ -603,19 +703,10 @@ module _ (sizes : Sizes) (nodes updates stores : List ℕ) (output words : ℕ) 
         let e : Setting = sampleSetting flow (planOf flow) mask in
         let room : Plan.Room sizes (length work) = rw wide (Plan.roomIn sizes nodes words lends) in
         let long : length (e .origins) ≡ sizes .nodes = sample-length (slots flow good) (flow .nodes) ∙ flow-count in
+        let o = sample-opens r in
         phase-starts sampleFrame lentIn e table program prior [] (planOf flow .sampleTasks) (desk work steps instructions (newAllocator 0 k m))
         (begins-are sizes mask 0 false work room (omega arith) e long (r .firsts) (r .unheld) steps instructions k m)
-        (sample-phase sampleFrame nodes e work (regions-are sizes mask 0 false work nodes e flow-nodes refl refl refl (r .firsts)) refl (slots flow good) refl
-        (region-part (2 * sizes .nodes) (sizes .nodes) (slots flow good) work (r .slots) slots-count) (countsIn sizes) (lends .good))
-        (tasks-named sizes mask 0 false work lentIn e (planOf flow .sampleTasks) (r .tasks)
-        (schedule-facts sizes mask 0 false work lentIn e (flow .nodes) (ss flow good) (writes flow) (comps flow good) (flow .output) (stored-facts mask 0 false work e)
-        (λ n t.
-        let c = comps-in flow good n t in
-        let h : n < sizes .nodes = rw flow-count at (c .0) in
-        let s = sample-none (getD (slots flow good) n 0) (nodeAt (flow .nodes) n) (rw (sample-at (slots flow good) (flow .nodes) n (c .0)) at (c .2)) in
-        computed-facts mask 0 false work e refl n h (s .1))
-        (rw flow-output (out, inr (inr (refl, (refl, refl)))))))
-        (no-next sizes mask 0 false work room (r .unheld))
+        (o .phase) (o .named) (o .none)
         written
         (sample-tasks-ok flow good (usable mask))
         (record { lt = λ n j h. absurd (omega arith); inj = λ n l j h g. absurd (omega arith) })
