@@ -1,4 +1,4 @@
--- Demand 3, last sentence: the compiler's list always passes the checker. Statements over the definitions of compile and check; no code.
+-- Demand 3, last sentence: the compiler's list always passes the checker. Statements over the definitions of compile and check.
 -- a walk over actions that tracks what each register and slot holds, a device of the proof: what the allocator emits goes through it
 pub mod Marks
 pub mod Tracking
@@ -32,5 +32,7 @@ pub mod CompiledRuns
 pub mod Locked
 pub mod LockedRun
 pub mod CallLocked
+-- all of it as one promise of a call: `promised`
+pub mod Promised
 -- the starred kernels of document 01
 pub mod Starred
