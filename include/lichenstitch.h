@@ -116,6 +116,22 @@ uint32_t lichenstitch_step_run(uint32_t version, uint32_t category, uint32_t cha
                                uint32_t *cursors, size_t cursors_length, uint32_t *output, size_t output_length,
                                uint32_t *answer, size_t answer_length);
 
+// The compiler: from a block to a kernel that uses the registers of `mask`: bit n for register n, the low sixteen. For N expanded
+// nodes, S states and D delays the caller lends:
+//   expansion            3N words or more: the expanded nodes are written to its first 3N
+//   steps, instructions  2(7N + 5(S + D + 1)) words or more each: the kernel's words, and zeros behind them
+//   work                 32N + 16(S + D) + 320 words or more: its words do not matter, and it is left all zeros
+// All tests of 1 to 13 come before anything is written, and the lowest number wins. Accepted: answer begins with the control steps,
+// sample steps, instructions, control slots, spill slots, and the most registers held at once over both phases.
+// Refused: 13 a table shorter than that, and nothing is changed; 14 an operation needs a register and every usable one is locked,
+// and then the expansion is written and steps, instructions and work are zeros.
+uint32_t lichenstitch_compile(uint32_t version, uint32_t category, uint32_t channels, uint32_t network, uint32_t output,
+                              const uint32_t *parameters, size_t parameters_length, const uint32_t *states,
+                              size_t states_length, const uint32_t *delays, size_t delays_length, const uint32_t *nodes,
+                              size_t nodes_length, uint32_t mask, uint32_t *expansion, size_t expansion_length,
+                              uint32_t *steps, size_t steps_length, uint32_t *instructions, size_t instructions_length,
+                              uint32_t *work, size_t work_length, uint32_t *answer, size_t answer_length);
+
 // The step checker: whether a kernel's step run is, for every input, the block's graph run. `mask` says which registers its steps
 // may use: bit n for register n, the low sixteen. For N expanded nodes, S states and D delays the caller lends:
 //   expansion  3N words or more: the expanded nodes are written to its first 3N

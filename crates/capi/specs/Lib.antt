@@ -2,4 +2,5 @@
 pub mod Crossing
 pub mod Runs
 pub mod CheckedRuns
+pub mod Compiles
 pub mod Files
