@@ -24,7 +24,7 @@ use Rattle.house.specs.FileLaws.{block-length, words-length, file-length
 
 -- ---- bytes and words
 
-word-behind : (xs ys : List ℕ) (n : ℕ) → wordFrom (xs ++ ys) (length xs + n) ≡ wordFrom ys n
+pub word-behind : (xs ys : List ℕ) (n : ℕ) → wordFrom (xs ++ ys) (length xs + n) ≡ wordFrom ys n
 unfolding wordFrom
 word-behind xs ys n =
     let a : length xs + n + 1 ≡ length xs + (n + 1) = omega arith in

@@ -19,7 +19,7 @@ pub fn block_word(bytes: &[u8], number: usize, place: usize) -> u32
 }
 
 // The wrapping sum of a block's 128 words.
-fn block_sum(bytes: &[u8], number: usize) -> u32
+pub fn block_sum(bytes: &[u8], number: usize) -> u32
     requires { ⌜ 512 * number + 512 ≤ length (now bytes) ⌝ }
     ensures { λ r. ⌜ r ≡ wrappingSum (listOf (blockWord (now (bytes .entry)) number) 128) ⌝ }
 {
@@ -48,7 +48,7 @@ fn wrong_kind(bytes: &[u8], number: usize, low: u32, high: u32) -> bool
 }
 
 // Whether a block that is not the last does not use all its payload words, or the last uses none or too many.
-fn wrong_used(bytes: &[u8], number: usize) -> bool
+pub fn wrong_used(bytes: &[u8], number: usize) -> bool
     requires { ⌜ 512 * number + 512 ≤ length (now bytes) ⌝ }
     ensures { λ r. ⌜ r ≡ wrongUsed (now (bytes .entry)) number ⌝ }
 {
@@ -63,7 +63,7 @@ fn wrong_used(bytes: &[u8], number: usize) -> bool
 }
 
 // Whether a payload word that is not used is not 0.
-fn rest_not_zero(bytes: &[u8], number: usize) -> bool
+pub fn rest_not_zero(bytes: &[u8], number: usize) -> bool
     requires { ⌜ 512 * number + 512 ≤ length (now bytes) ⌝ }
     ensures { λ r. ⌜ r ≡ restNotZero (now (bytes .entry)) number ⌝ }
 {

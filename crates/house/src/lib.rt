@@ -1,9 +1,9 @@
 // The house file of document 01: an effect block or a rendering in 512-byte blocks, read and written.
-mod blocks;
+pub mod blocks;
 mod effect;
-mod frame;
+pub mod frame;
 mod gather;
-mod payload;
+pub mod payload;
 mod words;
 
 use answers::Refusal;
@@ -128,7 +128,7 @@ pub fn read_block(
 }
 
 // The kind of an engine's renderings.
-fn kind_of(engine: Engine) -> u32
+pub fn kind_of(engine: Engine) -> u32
     ensures { λ r. ⌜ r ≡ kindOf engine ⌝ }
 {
     match engine {
