@@ -7,3 +7,6 @@ pub mod StreamLaws
 pub mod Written
 -- laws that the proofs of the code cite
 pub mod Ways
+-- two renderings compared, and that a pair of blocks after the other tells the same
+pub mod Compare
+pub mod CompareLaws

@@ -299,6 +299,11 @@ pub rendering-reads : (bytes samples : List ℕ)
 unfolding readRenderingAnswer renderingFrame
 rendering-reads bytes samples = sym (then-assoc (frameAnswer graphKind stepKind bytes) _ _)
 
+-- the first block tells which engine made it and how many samples it has
+pub rendering-head : (bytes rest : List ℕ) → 512 ≤ length bytes → renderingIn (bytes ++ rest) ≡ renderingIn bytes
+unfolding payloadWord
+rendering-head bytes rest h = let w = front-same bytes rest 0 (omega arith) in rw (w 0 (omega arith), w 3 (omega arith))
+
 -- A SAMPLE'S PLACE: sample i is payload word (i + 1) % 124 of block (i + 1) / 124
 pub sample-place : (bytes : List ℕ) (i : ℕ) → payloadWord bytes (samplesAt + i) ≡ payloadIn bytes ((i + 1) / 124) ((i + 1) % 124)
 unfolding payloadWord
