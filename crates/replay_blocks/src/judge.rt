@@ -1,21 +1,13 @@
 // Our answers on a block, held to the answer that was read.
-use crate::lines::Line;
-use crate::store;
-use answers::Refusal;
 use answers::Verdict;
 use block::Header;
 use expand::Expansion;
-ghost use mathlib.Core.Path.{_≡_};
-ghost use lib.ListN.{length};
+use replay::header_of;
+use replay::is_refusal;
+use replay::lines::Line;
+use replay::store;
 
 const TABLE_TOO_SHORT: u32 = 13;
-
-fn is_refusal(refusal: Refusal, answer: Line) -> bool {
-    if answers::number(refusal) != answer.first {
-        return false;
-    }
-    answers::value(refusal) == answer.second as u64
-}
 
 // Validation asks for no table, so a block whose expansion gets 13 is valid.
 fn is_valid(answer: Line) -> bool {
@@ -111,25 +103,13 @@ fn expands(
     holds(lent, expanded)
 }
 
-fn header_of(words: &[u32]) -> Header
-    requires { ⌜ length (now words) ≡ 6 ⌝ }
-{
-    Header {
-        version: words[0],
-        category: words[1],
-        channels: words[2],
-        network: words[3],
-        output: words[4],
-    }
-}
-
 // The word as a length.
 fn words_of(word: u32) -> usize {
     word as usize
 }
 
 // Whether both our answers on the block that was read are `answer`, and the lent table holds what it should.
-pub fn agrees(answer: Line, words: &[u32], counts: &[usize; 6], table: &mut [u32]) -> bool {
+pub fn agrees(answer: Line, words: &[u32], counts: &[usize; 10], table: &mut [u32]) -> bool {
     if !store::fits(counts) {
         return false;
     }

@@ -1,11 +1,11 @@
 // Replays the Rust's answers on validation and expansion: reads blocks from standard input, whose first lines say
 // how they are written, and prints the number of each block that is not answered so, and counts.
 mod judge;
-mod lines;
-mod store;
 
 use libc::STDOUT_FILENO;
-use lines::Line;
+use replay::lines;
+use replay::lines::Line;
+use replay::store;
 use std::num::wrapping_add_u64;
 
 struct Tally {
@@ -43,8 +43,8 @@ fn counted(tally: Tally, expanded: bool, agrees: bool) -> Tally {
 // Takes one line: an answer is compared and empties the tables, every other line adds to them.
 fn turn(
     tally: Tally,
-    words: &mut [u32; 49_200],
-    counts: &mut [usize; 6],
+    words: &mut [u32; 164_000],
+    counts: &mut [usize; 10],
     table: &mut [u32; 256],
 ) -> Tally {
     let line = lines::read();
@@ -72,8 +72,8 @@ fn turn(
 
 // A proved loop has to end, and nothing says that the input does: so it counts its turns.
 fn replay() -> Tally {
-    let mut words = [0u32; 49_200];
-    let mut counts = [0usize; 6];
+    let mut words = [0u32; 164_000];
+    let mut counts = [0usize; 10];
     let mut table = [0u32; 256];
     let mut tally = Tally {
         blocks: 0,

@@ -1,7 +1,7 @@
 -- `add` is safe and ends: the times that are left fall. Nothing has to hold from turn to turn.
 use borrow.Author.Needs.{needs}
-use Rattle.replay_blocks.proofs.store.add.Statement.{statement}
-use Rattle.replay_blocks.proofs.store.add.Tie as tie
+use Rattle.replay.proofs.store.add.Statement.{statement}
+use Rattle.replay.proofs.store.add.Tie as tie
 
 abbrev Inv-loop : tie.InvT-loop
 Inv-loop line times words₀ counts₀ left₀ words counts left = Unit {0}

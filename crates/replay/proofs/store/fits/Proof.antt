@@ -1,14 +1,14 @@
--- `fits` is safe and ends: the loop goes over the six counts.
+-- `fits` is safe and ends: the loop goes over the ten counts.
 use borrow.Author.Needs.{needs}
 use Prim.Native.Nat.{_-_}
-use Rattle.replay_blocks.proofs.store.fits.Statement.{statement}
-use Rattle.replay_blocks.proofs.store.fits.Tie as tie
+use Rattle.replay.proofs.store.fits.Statement.{statement}
+use Rattle.replay.proofs.store.fits.Tie as tie
 
 abbrev Inv-loop : tie.InvT-loop
 Inv-loop counts table₀ table = Unit {0}
 
 abbrev μ-loop : tie.MeasureT-loop
-μ-loop counts table₀ table = 6 - table
+μ-loop counts table₀ table = 10 - table
 
 pub fits-spec : {M : Type 1} → statement M
 fits-spec =

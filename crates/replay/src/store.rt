@@ -1,4 +1,5 @@
-// The tables of the block that is being read, side by side in one array, each with room for 8,200 words.
+// The tables of the block or call that is being read, side by side in one array, each with room for 16,400 words: the longest block that is replayed is
+// one of 5,466 nodes, whose expansion is too large.
 use crate::lines::Line;
 ghost use Prim.Native.Nat.{_≤_};
 
@@ -11,12 +12,20 @@ pub const DELAYS: usize = 2;
 pub const NODES: usize = 3;
 
 pub const EXPANDED: usize = 4;
-// Version, category, channels, network flag, output, and how many words the lent table has.
+// Version, category, channels, network flag, output, and of a block how many words the lent table has, of a call its mask.
 pub const HEADER: usize = 5;
+// Of a call: the expanded nodes, the table that is a word short, and the spare words of the others.
+pub const GIVEN: usize = 6;
 
-const TABLES: usize = 6;
+pub const STEPS: usize = 7;
 
-const ROOM: usize = 8_200;
+pub const INSTRUCTIONS: usize = 8;
+// Control steps, sample steps, instructions, control slots, spill slots, and the most registers held.
+pub const COUNTS: usize = 9;
+
+const TABLES: usize = 10;
+
+const ROOM: usize = 16_400;
 
 // The table that a line of this name adds to.
 fn table_of(name: u8) -> usize {
@@ -28,6 +37,11 @@ fn table_of(name: u8) -> usize {
         b'd' => DELAYS,
         b'b' => HEADER,
         b'f' => HEADER,
+        b'g' => GIVEN,
+        b'l' => STEPS,
+        b'i' => INSTRUCTIONS,
+        b'c' => COUNTS,
+        b'k' => COUNTS,
         _ => TABLES,
     }
 }
@@ -39,6 +53,8 @@ fn width_of(name: u8) -> usize
     match name {
         b's' => 2,
         b'd' => 2,
+        b'l' => 2,
+        b'i' => 2,
         _ => 3,
     }
 }
@@ -51,8 +67,8 @@ fn put(
     first: u32,
     second: u32,
     third: u32,
-    words: &mut [u32; 49_200],
-    counts: &mut [usize; 6],
+    words: &mut [u32; 164_000],
+    counts: &mut [usize; 10],
 )
     requires { ⌜ width ≤ 3 ⌝ }
 {
@@ -71,7 +87,7 @@ fn put(
     counts[table] = count + width;
 }
 
-fn put_line(line: Line, words: &mut [u32; 49_200], counts: &mut [usize; 6]) {
+fn put_line(line: Line, words: &mut [u32; 164_000], counts: &mut [usize; 10]) {
     if line.name == b'w' {
         put(line.first as usize, 1, line.second, 0, 0, words, counts);
         return;
@@ -90,7 +106,7 @@ fn put_line(line: Line, words: &mut [u32; 49_200], counts: &mut [usize; 6]) {
 }
 
 // The line's words, so many times.
-pub fn add(line: Line, times: u32, words: &mut [u32; 49_200], counts: &mut [usize; 6]) {
+pub fn add(line: Line, times: u32, words: &mut [u32; 164_000], counts: &mut [usize; 10]) {
     let mut left = times;
     while 0 < left {
         put_line(line, words, counts);
@@ -98,18 +114,22 @@ pub fn add(line: Line, times: u32, words: &mut [u32; 49_200], counts: &mut [usiz
     }
 }
 
-pub fn empty(counts: &mut [usize; 6]) {
+pub fn empty(counts: &mut [usize; 10]) {
     counts[0] = 0;
     counts[1] = 0;
     counts[2] = 0;
     counts[3] = 0;
     counts[4] = 0;
     counts[5] = 0;
+    counts[6] = 0;
+    counts[7] = 0;
+    counts[8] = 0;
+    counts[9] = 0;
 }
 
 // Whether every table had room for its words.
-pub fn fits(counts: &[usize; 6]) -> bool {
-    for table in 0..6 {
+pub fn fits(counts: &[usize; 10]) -> bool {
+    for table in 0..10 {
         if ROOM < counts[table] {
             return false;
         }

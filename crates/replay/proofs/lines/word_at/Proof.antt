@@ -1,8 +1,8 @@
 -- `word_at` is safe and ends: `at` is at most 29 and the loop goes over four pairs, so each index is below 37.
 use borrow.Author.Needs.{needs}
 use Prim.Native.Nat.{_≤_, _-_}
-use Rattle.replay_blocks.proofs.lines.word_at.Statement.{statement}
-use Rattle.replay_blocks.proofs.lines.word_at.Tie as tie
+use Rattle.replay.proofs.lines.word_at.Statement.{statement}
+use Rattle.replay.proofs.lines.word_at.Tie as tie
 
 abbrev Inv-loop : tie.InvT-loop
 Inv-loop bytes at word₀ k₀ word k = at ≤ 29
