@@ -1,11 +1,11 @@
 -- Laws of bytes and words: what is appended, a loop that sums, a loop that stores words. Assumes nothing.
 use mathlib.Core.Path.{_≡_, refl, sym, ap, _∙_}
 use mathlib.Core.List.{List, [], _∷_, _++_, append-assoc}
-use Prim.Native.Nat.{ℕ, _+_, _-_, _*_, _%_, _<_}
+use Prim.Native.Nat.{ℕ, _+_, _-_, _*_, _%_, _≤_, _<_}
 use native.Mathlib.Numerals.{add-one}
 use native.Mathlib.Omega.{arith}
-use lib.ListN.{length, getD, take}
-use lib.Seq.{sets, length-take-le, take-suc}
+use lib.ListN.{length, getD, take, drop, length-drop, take-append-drop}
+use lib.Seq.{sets, length-take-le, take-all, take-suc}
 use Rattle.tables.specs.Stores.{sets-append}
 use Rattle.tables.specs.Lists.{listOf}
 use Rattle.house.specs.Bytes.{wordFrom, fourBytes, bytesOf, total, wrappingSum, allOnes}
@@ -60,6 +60,15 @@ put-next p l m t at i w h e f g =
     let n : length (bytesOf (take i p)) ≡ 4 * i = bytes-length (take i p) ∙ ap (λ (x : ℕ). 4 * x) (length-take-le i p (omega arith)) in
     let b : bytesOf (take (i + 1) p) ≡ bytesOf (take i p) ++ fourBytes (getD p i 0) = rw (add-one, take-suc p i 0 h) (bytes-append (take i p) (getD p i 0 ∷ [])) in
     g ∙ rw (e, f, b) (sets-append l at (at + 4 * i) (bytesOf (take i p)) (fourBytes (getD p i 0)) (omega arith))
+
+-- the first u of the n words p, and the rest of them behind
+pub put-parts : (p l m t : List ℕ) (at n u : ℕ) → length p ≡ n → u ≤ n → m ≡ sets l at (bytesOf (take u p)) → t ≡ sets m (at + 4 * u) (bytesOf (take (n - u) (drop u p)))
+    → t ≡ sets l at (bytesOf p)
+put-parts p l m t at n u k h e g =
+    let r : take (n - u) (drop u p) ≡ drop u p = let d = length-drop u p in take-all (n - u) (drop u p) (omega arith) in
+    let s : length (bytesOf (take u p)) ≡ 4 * u = bytes-length (take u p) ∙ ap (λ (x : ℕ). 4 * x) (length-take-le u p (omega arith)) in
+    let b : bytesOf (take u p) ++ bytesOf (drop u p) ≡ bytesOf p = sym (bytes-append (take u p) (drop u p)) ∙ ap bytesOf (take-append-drop u p) in
+    g ∙ rw (r, e) (sets-append l at (at + 4 * u) (bytesOf (take u p)) (bytesOf (drop u p)) (omega arith) ∙ ap (sets l at) b)
 
 -- a loop that sums the words p
 pub sum-start : (p : List ℕ) → 0 ≡ wrappingSum (take 0 p)

@@ -1,9 +1,10 @@
 // Writing the blocks of a file: a block's payload as an array of 124 words, then its bytes (document 01, "House file").
 use crate::Contents;
 use crate::gather;
+use crate::payload;
 use crate::words;
 ghost use mathlib.Core.Path.{_≡_};
-ghost use Prim.Native.Nat.{_+_, _-_, _≤_, _<_, min};
+ghost use Prim.Native.Nat.{_+_, _-_, _*_, _≤_, _<_, min};
 ghost use mathlib.Core.List.{_∷_};
 ghost use lib.ListN.{length};
 ghost use lib.Seq.{sets};
@@ -28,16 +29,27 @@ fn payload_sum(payload: [u32; 124]) -> u32
     sum
 }
 
-// The payload's bytes, from `at` on.
-fn put_payload(bytes: &mut [u8], at: usize, payload: [u32; 124])
+// The bytes of words, from `at` on.
+fn put_words(bytes: &mut [u8], at: usize, words: &[u32])
+    requires { ⌜ at + 4 * length (now words) ≤ length (now bytes) ⌝ }
+    ensures { λ _. ⌜ now (bytes .exit) ≡ sets (now (bytes .entry)) at (bytesOf (now (words .entry))) ⌝ }
+{
+    let mut i: usize = 0;
+    while i < words.len() {
+        words::put(bytes, at + 4 * i, words[i]);
+        i += 1;
+    }
+}
+
+// The payload's bytes, from `at` on: the used words, then the rest. A loop of 124 turns would be unrolled whole, which is slower than two loops whose turns
+// are only known when they run.
+fn put_payload(bytes: &mut [u8], at: usize, payload: [u32; 124], used: u32)
     requires { ⌜ at + 496 ≤ length (now bytes) ⌝ }
     ensures { λ _. ⌜ now (bytes .exit) ≡ sets (now (bytes .entry)) at (bytesOf payload) ⌝ }
 {
-    let mut i: usize = 0;
-    while i < 124 {
-        words::put(bytes, at + 4 * i, payload[i]);
-        i += 1;
-    }
+    let count = payload::least(used as usize, 124);
+    put_words(bytes, at, &payload[..count]);
+    put_words(bytes, at + 4 * count, &payload[count..]);
 }
 
 // A whole block, from `at` on: kind, number, used count, payload, and the check that makes the wrapping sum all ones.
@@ -57,7 +69,7 @@ pub fn put_block(
     words::put(bytes, at, kind);
     words::put(bytes, at + 4, number);
     words::put(bytes, at + 8, used);
-    put_payload(bytes, at + 12, payload);
+    put_payload(bytes, at + 12, payload, used);
     words::put(bytes, at + 508, 0xffff_ffff - sum);
 }
 

@@ -11,7 +11,7 @@ ghost use Rattle.house.specs.Bytes.{wordsFrom};
 ghost use Rattle.house.specs.Frame.{payloadWord, payloadLength, section};
 
 // The smaller of two numbers.
-fn least(a: usize, b: usize) -> usize
+pub fn least(a: usize, b: usize) -> usize
     ensures { λ r. ⌜ r ≡ min a b ⌝ }
 {
     if a < b {

@@ -1,52 +1,46 @@
--- `put_payload`: before turn i the bytes of the first i words stand from `at` on. Assumes nothing.
-use mathlib.Core.Path.{_≡_, refl, ap, _∙_}
-use Prim.Native.Nat.{_-_, _≤_}
+-- `put_payload`: the bytes of the used words, and those of the rest behind them. Assumes nothing.
+use mathlib.Core.Path.{_≡_, sym}
 use native.Mathlib.Omega.{arith}
-use lib.ListN.{length, take}
-use lib.Seq.{sets, length-sets, take-length}
-use Rattle.house.specs.Bytes.{bytesOf}
-use Rattle.house.specs.BytesLaws.{put-start, put-next}
+use lib.ListN.{length}
+use lib.Seq.{length-take-le}
+use Rattle.house.specs.BytesLaws.{put-parts}
 use borrow.Author.Needs.{needs}
 use Rattle.house.proofs.blocks.put_payload.Statement.{statement}
 use Rattle.house.proofs.blocks.put_payload.Tie as tie
 
-abbrev Inv-loop : tie.InvT-loop
-Inv-loop bytes₀ at payload i₀ bytes i = (i ≤ 124) × ((length payload ≡ 124) × ((length bytes ≡ length bytes₀) × (bytes ≡ sets bytes₀ at (bytesOf (take i payload)))))
+slice-aggregate-put-words : tie.Need-slice-aggregate-put-words
+slice-aggregate-put-words c =
+    let n : length (c .before .before .before .before .args .t3) ≡ 124 = search needs in
+    let k = c .before .before .least .ensures in
+    sym (length-take-le (c .before .before .least .result) (c .before .before .before .before .args .t3) (omega arith))
 
-abbrev μ-loop : tie.MeasureT-loop
-μ-loop bytes₀ at payload i₀ bytes i = 124 - i
+put-words-requires : tie.Need-put-words-requires
+put-words-requires c κs =
+    let n : length (c .before .before .before .before .args .t3) ≡ 124 = search needs in
+    let k = c .before .before .least .ensures in
+    let t = length-take-le (c .before .before .least .result) (c .before .before .before .before .args .t3) (omega arith) in
+    omega arith
 
-loop-holds : tie.Need-loop-holds Inv-loop μ-loop
-loop-holds c = (omega arith, (search needs, (refl, put-start (c .before .args .t3) _ _)))
-
-put-requires : tie.Need-put-requires Inv-loop μ-loop
-put-requires c κs = let v = c .before .before .loop .inv in omega arith
-
-loop-again : tie.Need-loop-again Inv-loop μ-loop
-loop-again c =
-    let v = c .before .before .before .before .before .loop .inv in
-    (omega arith, (v .1 .0, (ap length (c .before .before .put .ensures) ∙ simp length-sets (v .1 .1 .0), put-next (c .before .before .before .before .before .before .before .args .t3) _ _ _ _ (c .before .before .before .before .before .loop .i) _ (omega arith) (v .1 .1 .1) refl (c .before .before .put .ensures))))
-
-same-length : tie.Need-same-length Inv-loop μ-loop
-same-length c = c .before .loop .inv .1 .1 .0
-
-returns : tie.Need-returns Inv-loop μ-loop
-returns c = let z : c .before .loop .i ≡ length (c .before .before .before .args .t3) = omega (arith, c .before .loop .inv .1 .0) in c .before .loop .inv .1 .1 .1 ∙ rw (z, take-length)
+returns : tie.Need-returns
+returns c =
+    let n : length (c .before .before .before .before .before .before .before .before .before .before .before .before .before .args .t3) ≡ 124 = search needs in
+    let k = c .before .before .before .before .before .before .before .before .before .before .before .least .ensures in
+    put-parts (c .before .before .before .before .before .before .before .before .before .before .before .before .before .args .t3) _ _ _ _ 124 (c .before .before .before .before .before .before .before .before .before .before .before .least .result) n (omega arith) (c .before .before .before .before .before .before .before .before .put-words .ensures) (c .before .before .put-words2 .ensures)
 
 pub put-payload-spec : {M : Type 1} → statement M
 put-payload-spec =
     tie.close
     (tie.spec
-    Inv-loop
-    μ-loop
-    loop-holds
+    (λ c κs. search needs)
+    (λ c. search needs)
+    slice-aggregate-put-words
+    put-words-requires
     (λ c. search needs)
     (λ c. search needs)
     (λ c. search needs)
     (λ c. search needs)
-    put-requires
     (λ c. search needs)
     (λ c. search needs)
-    loop-again
-    same-length
+    (λ c κs. search needs)
+    (λ c. search needs)
     returns)
