@@ -12,7 +12,7 @@ ghost use mathlib.Core.Path.{_≡_};
 ghost use Prim.Native.Nat.{_+_};
 ghost use Rattle.answers.specs.Numbers.{accepted};
 ghost use Rattle.block.specs.Block.{block};
-ghost use Rattle.house.specs.Payload.{kindOf, contentsEnd};
+ghost use Rattle.house.specs.Payload.{contentsEnd};
 ghost use Rattle.house.specs.File.{fileLength};
 ghost use Rattle.house.specs.Read.{tables, blockAnswerOf, readBlockCall, renderingAnswerOf, readRenderingCall};
 ghost use Rattle.house.specs.Write.{writtenOf, writeBlockCall, writeRenderingCall};
@@ -67,22 +67,12 @@ pub extern "C" fn lichenstitch_read_block(
     cross_contents(result, answer)
 }
 
-// The kind of an engine's renderings.
-fn kind_of(engine: Engine) -> u32
-    ensures { λ r. ⌜ r ≡ kindOf engine ⌝ }
-{
-    match engine {
-        Engine::Graph => 2,
-        Engine::Steps => 3,
-    }
-}
-
 // Kind and number of samples into the first lent words, and 0.
 fn accept_rendering(rendering: Rendering, answer: &mut [u32]) -> u32
     ensures { λ r. ⌜ crossing r (now (answer .exit)) ≡ renderingCrossing (accepted rendering) (now (answer .entry)) ⌝ }
 {
     let engine = rendering.engine;
-    let kind = kind_of(engine);
+    let kind = house::kind_of(engine);
     accept(kind, rendering.samples, answer)
 }
 
