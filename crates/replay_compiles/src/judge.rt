@@ -21,15 +21,17 @@ const LIST: usize = 1_024;
 
 const WORK: usize = 2_560;
 
+// A call with more states and delays than this is a difference, so that every length below is a number that fits.
 const MEMORIES: usize = 100;
 
-// The tables that a call is lent: expanded nodes, the table that is a word short, and the spare words of the others.
+// How a call's tables are lent: expanded nodes, the table that is a word short, and the spare words of the others.
 struct Given {
     nodes: u32,
     short: u32,
     spare: u32,
 }
 
+// The five counts and the most registers held are the ones that were told.
 fn is_told(kernel: Kernel, registers: u32, told: &[u32]) -> bool
     requires { ⌜ length (now told) ≡ 6 ⌝ }
 {
@@ -133,7 +135,7 @@ fn leaves(
     holds(work, &listed[..0], behind)
 }
 
-// A table has the words that it needs and the spare ones, or is a word short. It is never longer than its room: a call that
+// A table has the words that it needs and the spare ones, or is a word short. It is never longer than its room: a kernel that
 // needs more gets 13, a difference.
 fn lent(needed: usize, room: usize, table: u32, given: Given) -> usize
     ensures { λ r. ⌜ r ≤ room ⌝ }
