@@ -1,5 +1,7 @@
 // The checked run: a step list that the checker passes runs as the block's graph does (document 01, demand 3), so this is what a host calls with a list that it
 // was sent. All tests of the checker's and the step run's call come first, then the check, then the run.
+#![tactic(auto)]
+
 ghost use Rattle.std.specs.Prelude.{◌≡◌, [], ◌≤◌, ltb};
 ghost use Rattle.answers.specs.Numbers as Numbers;
 ghost use Rattle.block.specs.Block.{block};

@@ -1,9 +1,11 @@
 // The numbered answers of document 01 as one enum. `specs/Numbers.antt` gives each case its number and values.
+#![tactic(auto)]
+
 ghost use Rattle.std.specs.Prelude.{◌≡◌};
 ghost use Rattle.answers.specs.Numbers.{number_of, first_value};
 
 // Why an input was refused: a case for each numbered answer, with the values that the document gives it.
-#[derive(Drop)]
+#[derive(Clone, Copy)]
 pub enum Refusal {
     Malformed,
     UnknownVersion,
@@ -30,7 +32,7 @@ pub enum Refusal {
 }
 
 // The answer of a call that gives nothing else back.
-#[derive(Drop)]
+#[derive(Clone, Copy)]
 pub enum Verdict {
     Valid,
     Refused(Refusal),

@@ -1,4 +1,6 @@
 // A block: a header and four lent tables of words (document 01, "What crosses the boundary"), and its validation.
+#![tactic(auto)]
+
 pub mod kinds;
 pub mod limits;
 mod rules;
@@ -13,7 +15,7 @@ ghost use Rattle.block.specs.Validation.{too_large, records_answer, validation};
 use answers::{Refusal, Verdict};
 
 // What a block says besides its four tables.
-#[derive(Drop)]
+#[derive(Clone, Copy)]
 pub struct Header {
     pub version: u32,
     pub category: u32,
@@ -23,7 +25,7 @@ pub struct Header {
 }
 
 // What a node's code says of the node: which of its words are used and how it expands.
-#[derive(Drop)]
+#[derive(Clone, Copy)]
 pub enum Kind {
     Source,
     Constant,

@@ -1,5 +1,7 @@
 // The C functions: thin calls of the crates that do the work, under one prefix, each with the same
 // promise as what it calls. include/lichenstitch.h declares them for C.
+#![tactic(auto)]
+
 mod checks;
 mod compiles;
 mod files;

@@ -1,4 +1,6 @@
 // The step checker: which step lists compute what the block's graph does (document 01, "What the step checker passes", answer 19).
+#![tactic(auto)]
+
 mod mask;
 mod moves;
 mod plan;
@@ -17,7 +19,7 @@ use block::{Header, kinds};
 use kernel::Kernel;
 
 // What a list is checked by, besides tables: the counts of expanded nodes, parameters, states and delays, the output's node, the mask and the kernel.
-#[derive(Drop)]
+#[derive(Clone, Copy)]
 struct Terms {
     pub count: usize,
     pub parameters: usize,

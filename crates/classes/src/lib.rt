@@ -3,6 +3,8 @@
 // The work table for N nodes: words 0..N are the classes, so `work[node]` is a node's class; from N + 4 * node on stand a node's two keys and its two cells in a
 // tree on the bits of keys, so that a look at a node reads one place; from 5 * N on are the cells where the walks begin, N / 16 + 1 for each code (specs/Start.antt).
 // What lies behind 7 * N + 32 belongs to the caller. A walk begins among few nodes, and looks at no more than 65 cells whatever the block (specs/Depth.antt).
+#![tactic(auto)]
+
 ghost use Rattle.std.specs.Prelude.{◌≡◌, ℕ, ◌+◌, ◌*◌, ◌≤◌, ◌<◌, length, get_or};
 ghost use Rattle.block.specs.Limits.{most_nodes};
 ghost use Rattle.classes.specs.Classes.{is_operand, key_of, first_key, second_key, find};

@@ -1,5 +1,7 @@
 // Compile: from a block to a kernel's words (document 01, modules 3 and 4): a step table (control, then sample), an instruction table, five counts and the
 // most registers held at once. Definitions and theorems are in specs/.
+#![tactic(auto)]
+
 mod phases;
 mod updates;
 
@@ -16,14 +18,14 @@ use kernel::Kernel;
 use plan::Sizes;
 
 // What an accepted call tells besides the tables: the five counts, and the most registers held at once over both phases.
-#[derive(Drop)]
+#[derive(Clone, Copy)]
 pub struct Compiled {
     pub kernel: Kernel,
     pub registers: u32,
 }
 
 // The answer of `compile`.
-#[derive(Drop)]
+#[derive(Clone, Copy)]
 pub enum Compilation {
     Accepted(Compiled),
     Refused(Refusal),

@@ -1,5 +1,7 @@
 // Demand 3, last sentence: what compile gives always passes the checker, and runs as the block's graph does. The statements are in specs/, over the definitions
 // that the functions promise; `compile_checked` is that statement as a function that a host or a shop can call.
+#![tactic(auto)]
+
 ghost use Rattle.std.specs.Prelude.{◌≡◌};
 ghost use Rattle.block.specs.Block.{block};
 ghost use Rattle.compile.specs.Call.{tables, outcome, answer_of, compile_call};

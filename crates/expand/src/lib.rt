@@ -1,4 +1,6 @@
 // The expansion of a block: every macro node as primitive nodes (document 01, module 2).
+#![tactic(auto)]
+
 mod in_place;
 mod macros;
 mod map;
@@ -13,14 +15,14 @@ use answers::{Refusal, Verdict};
 use block::{Header, kinds, limits};
 
 // What an accepted expansion tells besides the table: how many nodes it has and which of them is the output.
-#[derive(Drop)]
+#[derive(Clone, Copy)]
 pub struct Expanded {
     pub length: u32,
     pub output: u32,
 }
 
 // The answer of `expand`.
-#[derive(Drop)]
+#[derive(Clone, Copy)]
 pub enum Expansion {
     Accepted(Expanded),
     Refused(Refusal),

@@ -1,4 +1,6 @@
 // The graph run: the preview engine, which evaluates a block's nodes sample by sample (document 01, module 6).
+#![tactic(auto)]
+
 mod plan;
 mod sample;
 mod samples;

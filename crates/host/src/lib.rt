@@ -1,4 +1,6 @@
 // The thin host entry: one instruction on sixteen registers that are lent as a struct and written where they stand (document 01, module 6).
+#![tactic(auto)]
+
 ghost use Rattle.std.specs.Prelude.{◌≡◌, set};
 ghost use Rattle.kernel.specs.Instructions.{destination};
 ghost use Rattle.machine.specs.Machine.{register, result, execute};
@@ -8,13 +10,13 @@ use answers::{Refusal, Verdict};
 use kernel::{Instruction, InstructionWords, instructions};
 
 // "A thin host entry takes them as a struct lent to it."
-#[derive(Drop)]
+#[derive(Clone, Copy)]
 pub struct Registers {
     pub words: [u32; 16],
 }
 
 // What a call leaves: its answer and the sixteen words.
-#[derive(Drop)]
+#[derive(Clone, Copy)]
 pub struct Outcome {
     pub answer: Verdict,
     pub words: [u32; 16],

@@ -1,4 +1,6 @@
 // The house file of document 01: an effect block or a rendering in 512-byte blocks, read and written.
+#![tactic(auto)]
+
 pub mod blocks;
 mod effect;
 pub mod frame;
@@ -27,7 +29,7 @@ const STEP_KIND: u32 = 3;
 const MOST_SAMPLES: usize = 0xffff_ffff;
 
 // What an effect block's file says besides its four tables: the header, and how many records each table has.
-#[derive(Drop)]
+#[derive(Clone, Copy)]
 pub struct Contents {
     pub header: Header,
     pub parameters: u32,
@@ -37,35 +39,35 @@ pub struct Contents {
 }
 
 // The answer of `read_block`.
-#[derive(Drop)]
+#[derive(Clone, Copy)]
 pub enum BlockRead {
     Read(Contents),
     Refused(Refusal),
 }
 
 // Which engine made a rendering: the graph run or the step run.
-#[derive(Drop)]
+#[derive(Clone, Copy)]
 pub enum Engine {
     Graph,
     Steps,
 }
 
 // What a rendering's file says besides its samples.
-#[derive(Drop)]
+#[derive(Clone, Copy)]
 pub struct Rendering {
     pub engine: Engine,
     pub samples: u32,
 }
 
 // The answer of `read_rendering`.
-#[derive(Drop)]
+#[derive(Clone, Copy)]
 pub enum RenderingRead {
     Read(Rendering),
     Refused(Refusal),
 }
 
 // The answer of a writer: how many bytes the file has.
-#[derive(Drop)]
+#[derive(Clone, Copy)]
 pub enum Written {
     Bytes(usize),
     Refused(Refusal),

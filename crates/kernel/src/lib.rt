@@ -1,11 +1,12 @@
 // Steps, instructions and kernels, and the words that tables hold of them (document 01, "What crosses the boundary").
+#![tactic(auto)]
 
 pub mod instructions;
 pub mod lists;
 pub mod steps;
 
 // Where a load reads.
-#[derive(Drop)]
+#[derive(Clone, Copy)]
 pub enum Source {
     Audio,
     Network,
@@ -16,7 +17,7 @@ pub enum Source {
 }
 
 // One action of a phase.
-#[derive(Drop)]
+#[derive(Clone, Copy)]
 pub enum Step {
     Load { source: Source, register: u32 },
     Compute { instruction: u32 },
@@ -29,14 +30,14 @@ pub enum Step {
 }
 
 // Two words read as a step.
-#[derive(Drop)]
+#[derive(Clone, Copy)]
 pub enum StepWords {
     Formed(Step),
     Malformed,
 }
 
 // One scalar operation on the sixteen registers.
-#[derive(Drop)]
+#[derive(Clone, Copy)]
 pub enum Instruction {
     Immediate { dst: u32, value: u32 },
     Add { dst: u32, lhs: u32, rhs: u32 },
@@ -50,21 +51,21 @@ pub enum Instruction {
 }
 
 // Two words read as an instruction.
-#[derive(Drop)]
+#[derive(Clone, Copy)]
 pub enum InstructionWords {
     Formed(Instruction),
     Malformed,
 }
 
 // Control steps run once per call, sample steps once per sample.
-#[derive(Drop)]
+#[derive(Clone, Copy)]
 pub enum Phase {
     Control,
     Sample,
 }
 
 // The five counts that come with a step table and an instruction table: control steps, sample steps, instructions, control slots, spill slots.
-#[derive(Drop)]
+#[derive(Clone, Copy)]
 pub struct Kernel {
     pub control: u32,
     pub sample: u32,

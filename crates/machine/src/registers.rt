@@ -38,7 +38,7 @@ pub fn read(registers: [u32; 16], at: u32) -> u32
     0
 }
 
-#[derive(Drop)]
+#[derive(Clone, Copy)]
 struct Operands {
     lhs: u32,
     rhs: u32,

@@ -1,5 +1,7 @@
 // What lives from sample to sample: parameter values, states, one delay area and the cursors of its lines (document 01, module 6).
 // Here: set and reset.
+#![tactic(auto)]
+
 use answers::{Refusal, Verdict};
 use block::Header;
 

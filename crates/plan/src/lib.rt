@@ -1,5 +1,6 @@
 // The plan of a kernel (document 01, module 3): what is hoisted into the control phase, what each phase reaches, and the tasks of each phase in order. All
 // of it stands in regions of one work table, whose places are in specs/Layout.
+#![tactic(auto)]
 
 pub mod control;
 pub mod hoist;
@@ -13,7 +14,7 @@ ghost use Rattle.plan.specs.ControlShare.{flow_in, control_count, control_table,
 ghost use Rattle.plan.specs.Shares.{SampleBegins, SampleShare};
 
 // How many nodes, states and delays an expanded block has.
-#[derive(Drop)]
+#[derive(Clone, Copy)]
 pub struct Sizes {
     pub nodes: usize,
     pub states: usize,
@@ -21,7 +22,7 @@ pub struct Sizes {
 }
 
 // How many control slots the hoisted values have, and how many tasks the control phase.
-#[derive(Drop)]
+#[derive(Clone, Copy)]
 pub struct Hoisted {
     pub slots: u32,
     pub tasks: usize,

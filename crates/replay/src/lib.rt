@@ -1,4 +1,6 @@
 // What the programs that replay blocks and compiles share: the lines that they read, the tables that these fill, and a refusal held to an answer line.
+#![tactic(auto)]
+
 pub mod lines;
 pub mod store;
 

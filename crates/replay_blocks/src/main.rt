@@ -1,5 +1,7 @@
 // Replays the Rust's answers on validation and expansion: reads blocks from standard input, whose first lines say
 // how they are written, and prints the number of each block that is not answered so, and counts.
+#![tactic(auto)]
+
 mod judge;
 
 use libc::STDOUT_FILENO;
@@ -7,7 +9,7 @@ use replay::lines::Line;
 use replay::{lines, store};
 use std::num::wrapping_add_u64;
 
-#[derive(Drop)]
+#[derive(Clone, Copy)]
 struct Tally {
     blocks: u64,
     expansions: u64,

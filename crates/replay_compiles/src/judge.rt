@@ -21,7 +21,7 @@ const WORK: usize = 2_560;
 const MEMORIES: usize = 100;
 
 // How a call's tables are lent: expanded nodes, the table that is a word short, and the spare words of the others.
-#[derive(Drop)]
+#[derive(Clone, Copy)]
 struct Given {
     nodes: u32,
     short: u32,

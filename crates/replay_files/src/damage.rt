@@ -2,7 +2,7 @@
 use crate::{answer, effects, renderings};
 
 // The answers on damaged files: how many were read, got 20, got 21, and got another answer than they should.
-#[derive(Drop)]
+#[derive(Clone, Copy)]
 pub struct Tally {
     pub read: u32,
     pub checks: u32,

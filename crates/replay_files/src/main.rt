@@ -1,5 +1,7 @@
 // Writes and reads back files at the limits of a block of 124 payload words, and reads damaged copies of them. Prints how many there
 // were, and how many got another answer than document 01 names.
+#![tactic(auto)]
+
 mod answer;
 mod damage;
 mod effects;

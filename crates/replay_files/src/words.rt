@@ -1,7 +1,7 @@
 // What the tables of a file hold: a word for each table and place, so that a table is known without a copy of it.
 use crate::answer;
 
-#[derive(Drop)]
+#[derive(Clone, Copy)]
 pub enum Table {
     Samples,
     Parameters,

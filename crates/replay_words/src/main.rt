@@ -1,5 +1,7 @@
 // Replays the Rust's answers on the word operations: reads records of 32 bytes from standard input,
 // whose first lines say what they hold, and prints each one that is not ours, and a count of them.
+#![tactic(auto)]
+
 ghost use Rattle.std.specs.Prelude.{◌≤◌};
 
 use libc::{STDIN_FILENO, STDOUT_FILENO};
@@ -97,7 +99,7 @@ fn agrees(line: &[u8; 32]) -> bool {
     false
 }
 
-#[derive(Drop)]
+#[derive(Clone, Copy)]
 struct Tally {
     vectors: u64,
     differences: u64,

@@ -1,4 +1,6 @@
 // The step run: the engine of the unit, which executes a kernel's steps on sixteen registers (document 01, module 6).
+#![tactic(auto)]
+
 mod budget;
 mod samples;
 
@@ -15,21 +17,21 @@ use kernel::{Kernel, lists};
 use memory::{lines, sizes};
 
 // What an accepted call tells: how many samples it did and how many steps that took.
-#[derive(Drop)]
+#[derive(Clone, Copy)]
 pub struct Done {
     pub samples: u32,
     pub steps: u32,
 }
 
 // The answer of `run`.
-#[derive(Drop)]
+#[derive(Clone, Copy)]
 pub enum Answer {
     Accepted(Done),
     Refused(Refusal),
 }
 
 // "The sixteen registers go in and come back as one array of words."
-#[derive(Drop)]
+#[derive(Clone, Copy)]
 pub struct Ran {
     pub answer: Answer,
     pub registers: [u32; 16],

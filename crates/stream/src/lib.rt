@@ -1,5 +1,7 @@
 // The house file of document 01 ("House file"), block by block: a file of any length is judged, read and written without being kept. That this gives
 // what the functions of `house` give for the whole file is proved.
+#![tactic(auto)]
+
 mod compare;
 mod last;
 
@@ -16,7 +18,7 @@ use house::{Engine, blocks, frame};
 
 // What is kept of the whole blocks seen so far: their count, the first one's kind, the used count of the last, and the number of the first fault,
 // 20 or 21, or 0.
-#[derive(Drop)]
+#[derive(Clone, Copy)]
 pub struct Framed {
     pub blocks: usize,
     pub kind: u32,
@@ -122,7 +124,7 @@ pub fn rendering_block(engine: Engine, number: u32, words: &[u32], bytes: &mut [
 
 // What is kept of a comparison of two renderings after equally many blocks of each: how many samples are equal before the first that differs, and the two
 // words of that one, 0 while there is none.
-#[derive(Drop)]
+#[derive(Clone, Copy)]
 pub struct Comparison {
     pub pairs: usize,
     pub equal: usize,
@@ -131,7 +133,7 @@ pub struct Comparison {
 }
 
 // How two renderings differ: not at all, in a sample, or in that the shorter one ends.
-#[derive(Drop)]
+#[derive(Clone, Copy)]
 pub enum Difference {
     Nothing,
     Sample { place: usize, one: u32, two: u32 },

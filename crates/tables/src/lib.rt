@@ -1,4 +1,6 @@
 // Zeroing and copying tables of words. The laws on lists, parts and loops that every other crate cites are in specs/.
+#![tactic(auto)]
+
 ghost use Rattle.std.specs.Prelude.{◌≡◌, ◌-◌, min, length};
 ghost use Rattle.tables.specs.Zeros.{zeros, zeroed, copied};
 

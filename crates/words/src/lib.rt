@@ -1,5 +1,7 @@
 // Operations on words that hold f32 bits (document 01, module 1), and the tests of a parameter's
 // words. Every function has its result for every word, NaN patterns included.
+#![tactic(auto)]
+
 ghost use Rattle.std.specs.Prelude.{◌≡◌, ◌||◌};
 ghost use Rattle.std.specs.Float.Ieee.Scale.{finite};
 ghost use Rattle.words.specs.Operations.{float_of, word_of, added, subtracted, multiplied, is_nan, is_less, chosen, lesser, greater, negated, absolute, wrapping_difference, operate, is_finite, within, valid_span, in_range, span_is_valid};

@@ -1,0 +1,14 @@
+use borrow.Author.Rules.{rules}
+use mathlib.Core.Path.{◌≡◌, sym}
+use native.Mathlib.Omega.{arith}
+use Prim.Native.Nat.{◌-◌, ◌≤◌}
+use Rattle.tables.specs.Loops.{sum_start}
+use Rattle.block.specs.Kinds.{tanh_steps, offset}
+use Rattle.block.specs.KindLaws.{length_most, length_stop, length_turn, length_end}
+use Rattle.block.proofs.kinds.expanded_length.Given as goal
+
+abbrev pub invariant-loop-i : goal.invariant-loop-i
+invariant-loop-i l = (l.i ≤ l.count) × ((l.total ≡ offset tanh_steps l.nodes l.i) × (l.total ≤ 65536))
+
+abbrev pub decreases-loop-i : goal.decreases-loop-i
+decreases-loop-i l = l.count - l.i

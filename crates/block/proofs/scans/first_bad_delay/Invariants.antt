@@ -1,0 +1,18 @@
+use borrow.Author.Rules.{rules}
+use mathlib.Core.Path.{◌≡◌, sym, ◌∙◌}
+use native.Mathlib.Omega.{arith}
+use Prim.Native.Nat.{◌-◌, ◌≤◌, ◌*◌}
+use Rattle.answers.specs.Numbers.{accepted}
+use Rattle.answers.specs.Order.{in_order}
+use Rattle.answers.specs.OrderLaws.{in_order_start, in_order_next, in_order_stop, in_order_end}
+use Rattle.tables.specs.Loops.{sum, sum_start, sum_turn}
+use Rattle.block.specs.Block.{delay_length}
+use Rattle.block.specs.Validation.{delay_answer}
+use Rattle.block.specs.Parts.{delay_stop, delay_pass, delay_low}
+use Rattle.block.proofs.scans.first_bad_delay.Given as goal
+
+abbrev pub invariant-loop-i : goal.invariant-loop-i
+invariant-loop-i l = (l.i ≤ l.count) × ((in_order (delay_answer l.delays l.nodes) l.i ≡ accepted tt) × ((l.total ≡ sum (delay_length l.delays) l.i) × (l.total ≤ 16777216)))
+
+abbrev pub decreases-loop-i : goal.decreases-loop-i
+decreases-loop-i l = l.count - l.i

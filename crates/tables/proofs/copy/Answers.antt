@@ -1,0 +1,21 @@
+-- `copy` meets its contract: before turn i the table `to` is the one at entry with the first i words of `from` over it (specs/Zeros). Assumes nothing.
+use mathlib.Core.Path.{◌≡◌, refl, ◌∙◌}
+use Prim.Native.Nat.{◌-◌, ◌≤◌, min}
+use native.Mathlib.Omega.{arith}
+use lib.ListN.{length, take, length-set}
+use borrow.Author.Rules.{rules}
+use Rattle.tables.specs.Zeros.{copied, copied_start, copied_next, copied_end}
+use Rattle.tables.proofs.copy.Goals as goal
+
+pub loop-i-init : goal.loop-i-init
+loop-i-init c = (c.least-count.ensures, (omega arith, (refl, copied_start c.args.from.now _)))
+
+pub loop-i-preserved : goal.loop-i-preserved
+loop-i-preserved c =
+    let v = c.loop-i.invariant in
+    (v.0, (omega arith, (simp length-set v.1.1.0, copied_next c.args.from.now _ _ c.loop-i.i (omega arith) v.1.1.1)))
+
+pub returns : goal.returns
+returns c =
+    let v = c.loop-i.invariant in
+    v.1.1.1 ∙ copied_end c.args.from.now c.args.to.now c.loop-i.i (omega arith) (omega arith)

@@ -1,0 +1,21 @@
+-- `words::mul` meets its contract: a NaN operand gives the NaN word (`multiplied_nan`); else both words are floats, and `to_word` writes their product.
+use Rattle.std.proofs.Common.{sym, ◌∙◌, rules}
+use Rattle.words.specs.Operations.{float_of, multiplied}
+use Rattle.words.specs.Laws.{multiplied_nan, left_number, right_number}
+use Rattle.words.proofs.mul.Goals as goal
+
+pub returns-then-has_nan : goal.returns-then-has_nan
+unfolding multiplied float_of
+returns-then-has_nan c = multiplied_nan _ _ (sym c.has_nan.ensures ∙ c.if-has_nan.true)
+
+pub float_from_bits-left : goal.float_from_bits-left
+unfolding multiplied float_of
+float_from_bits-left c = left_number _ _ (sym c.has_nan.ensures ∙ c.if-has_nan.false)
+
+pub float_from_bits-right : goal.float_from_bits-right
+unfolding multiplied float_of
+float_from_bits-right c = right_number _ _ (sym c.has_nan.ensures ∙ c.if-has_nan.false)
+
+pub returns : goal.returns
+unfolding multiplied float_of
+returns c = c.to_word.ensures
