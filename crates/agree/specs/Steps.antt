@@ -26,7 +26,7 @@ use Rattle.classes.specs.Classes.{find}
 use Rattle.memory.specs.Lines.{Memories, read_delay, store_delay, store_state}
 use Rattle.memory.specs.Signals.{Given, given}
 use Rattle.graph_run.specs.Sample.{value_of, values}
-use Rattle.machine.specs.Machine.{Machine, Program, program, result, execute, execute_words, loaded, with_registers, act, counted}
+use Rattle.machine.specs.Machine.{Machine, Program, program, result_of, execute, execute_words, loaded, with_registers, act, counted}
 use Rattle.checker.specs.Walk.{Listing, sizes_of, Held, fetched, loaded_class, result_of_two, result_of_one, computed_class, words_class, with_result, after_step}
 use Rattle.agree.specs.Codes.{value_input, value_constant, value_parameter, value_state, value_delay, value_network, value_add, value_sub, value_mul, value_min, value_max, value_integer_sub, value_neg, value_abs}
 use Rattle.agree.specs.OneValue.{value_at, class_value, find_value}

@@ -20,7 +20,7 @@ use Rattle.allocate.specs.State.{Allocated, allocated, all_locked, and_then, Set
 use Rattle.allocate.specs.Allocator.{read_later, home_code, fetch_all, run_task, run_compute, run_keep, run_store, allocate_task, reads_of, allocate}
 use Rattle.allocate.specs.Outcomes.{Post, post_bind}
 use Rattle.allocate.specs.StateLaws.{Sixteen}
-use Rattle.allocate.specs.ReadLaws.{FetchedAll, fetchAll_fetched}
+use Rattle.allocate.specs.ReadLaws.{FetchedAll, fetch_all_fetched}
 use Rattle.allocate.specs.TaskLaws.{Invariant, Next, compute_next, keep_next, store_next}
 use Rattle.allocate.specs.RunLaws.{HomesOk, TasksOk, cost, reads_keep, reads_store}
 use Rattle.allocate.specs.Pressure.{reads_two}
@@ -68,7 +68,7 @@ module _ (e : Setting) (own : List ℕ) (wf : Sixteen e) (homes : HomesOk own e.
       let rest : List (List ℕ) = reads_of e tasks in
       let o = g.owed in
       post_bind (Unit {0}) (FetchedAll e own [] rd s) (Goes (n ∷ done) (suc n) tasks 6 s) (fetch_all e (rd ∷ rest) rd [] s) _
-      (fetchAll_fetched e own wf (rd ∷ rest) rd [] [] s g.inv.good (λ m t. (o.0 m t).0) tt)
+      (fetch_all_fetched e own wf (rd ∷ rest) rd [] [] s g.inv.good (λ m t. (o.0 m t).0) tt)
       (λ x f. lift (run_compute e rest rd n x) (compute_next e own wf done rest rd n s x g.inv o.0 o.1 o.2 f))
     where
       lift : (x : Allocated State)
@@ -84,7 +84,7 @@ module _ (e : Setting) (own : List ℕ) (wf : Sixteen e) (homes : HomesOk own e.
       let rest : List (List ℕ) = reads_of e tasks in
       let o = g.owed in
       post_bind (Unit {0}) (FetchedAll e own [] rd s) (Goes done 0 tasks 1 s) (fetch_all e (rd ∷ rest) rd [] s) _
-      (fetchAll_fetched e own wf (rd ∷ rest) rd [] [] s g.inv.good (λ m t. (o.0 m t).0) tt)
+      (fetch_all_fetched e own wf (rd ∷ rest) rd [] [] s g.inv.good (λ m t. (o.0 m t).0) tt)
       (λ x f. lift x f (run_keep e rest rd k v x) (keep_next e own wf done rest rd k v s x g.inv o.0 o.3 (homes.lt v k o.3) (λ m i. homes.inj m i k) f))
     where
       one : (m : ℕ) → T (member m (task_reads e.nodes e.origins (keep_task k v))) → T (is_some (register_of s m))
@@ -108,7 +108,7 @@ module _ (e : Setting) (own : List ℕ) (wf : Sixteen e) (homes : HomesOk own e.
       let rest : List (List ℕ) = reads_of e tasks in
       let o = g.owed in
       post_bind (Unit {0}) (FetchedAll e own [] rd s) (Goes done 0 tasks 5 s) (fetch_all e (rd ∷ rest) rd [] s) _
-      (fetchAll_fetched e own wf (rd ∷ rest) rd [] [] s g.inv.good (λ m t. (o.0 m t).0) tt)
+      (fetch_all_fetched e own wf (rd ∷ rest) rd [] [] s g.inv.good (λ m t. (o.0 m t).0) tt)
       (λ x f. lift (run_store e rest rd c j x) (store_next e own wf done rest rd c j s x g.inv o.0 (λ n q. ((home_known e.origins (home_code c) j n q).0, or_second (member n done) (has_origin (origin_at e.origins n)) (home_known e.origins (home_code c) j n q).1)) f))
     where
       lift : (x : Allocated State)

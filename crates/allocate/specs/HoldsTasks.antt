@@ -24,7 +24,7 @@ use Rattle.allocate.specs.State.{Allocated, allocated, all_locked, and_then, Set
 use Rattle.allocate.specs.Allocator.{fetch_all, run_task, run_store, allocate_task, reads_of}
 use Rattle.allocate.specs.Outcomes.{Post}
 use Rattle.allocate.specs.StateLaws.{Good}
-use Rattle.allocate.specs.ReadLaws.{FetchedAll, fetchAll_fetched}
+use Rattle.allocate.specs.ReadLaws.{FetchedAll, fetch_all_fetched}
 use Rattle.allocate.specs.ReadLaws as ReadLaws
 use Rattle.allocate.specs.Layout.{slot_at, task_at, link_at}
 use Rattle.allocate.specs.Desk.{Desk, Choice, choose, access}
@@ -253,7 +253,7 @@ unfolding ran carried performed allocate_task
 task_holds frame l e table program prior rest position task own d s h good at =
     go (fetched_both frame l.nodes r d) (fetch_all e (reads ∷ rest) reads [] s)
     (both_holds frame l.nodes e table program prior (reads ∷ rest) position own r fine.1 d s h good reads fine.0)
-    (fetchAll_fetched e own (phase_sixteen frame l.nodes e d.work h.phase) (reads ∷ rest) reads [] [] s good (λ m t. rw h.phase.count (reads_inside r reads fine.0 frame.nodes fine.1 m t)) tt)
+    (fetch_all_fetched e own (phase_sixteen frame l.nodes e d.work h.phase) (reads ∷ rest) reads [] [] s good (λ m t. rw h.phase.count (reads_inside r reads fine.0 frame.nodes fine.1 m t)) tt)
     (both_kept frame l.nodes r fine.1 d h.ready)
   where
     reads : List ℕ

@@ -45,15 +45,15 @@ module _ (e : Setting) (asc : Ascending 0 e.registers) where
       go (suc r) = tt
 
   -- so do the fetches of a task, each of which locks one
-  pub fetchAll_sure : (rest : List (List ℕ)) (ns locked : List ℕ) (s : State) → length locked + length ns ≤ length e.registers
+  pub fetch_all_sure : (rest : List (List ℕ)) (ns locked : List ℕ) (s : State) → length locked + length ns ≤ length e.registers
       → Post ⊥ (λ g. length g.registers ≡ length locked + length ns) (fetch_all e rest ns locked s)
   unfolding fetch_all
-  fetchAll_sure rest [] locked s h = omega arith
-  fetchAll_sure rest (n ∷ ns) locked s h =
+  fetch_all_sure rest [] locked s h = omega arith
+  fetch_all_sure rest (n ∷ ns) locked s h =
       post_bind ⊥ Any _ (fetch e rest n locked s) _ (fetch_sure rest n locked s (omega arith)) (λ g u.
       let l : length (locked ++ (g.register ∷ [])) ≡ length locked + 1 = length-append locked (g.register ∷ []) in
       let q : length (locked ++ (g.register ∷ [])) + length ns ≡ length locked + suc (length ns) = omega arith in
-      rw q at (fetchAll_sure rest ns (locked ++ (g.register ∷ [])) g.state (omega arith)))
+      rw q at (fetch_all_sure rest ns (locked ++ (g.register ∷ [])) g.state (omega arith)))
 
   -- so does the task, with a register left
   pub task_sure : (rest : List (List ℕ)) (reads : List ℕ) (o : Task) (g : TakenAll) → length g.registers < length e.registers → Sure (run_task e rest reads o g)
@@ -84,6 +84,6 @@ module _ (e : Setting) (asc : Ascending 0 e.registers) where
   run_sure h (o ∷ os) s =
       let rd : List ℕ = task_reads e.nodes e.origins o in
       post_bind ⊥ Any Any (allocate_task e (reads_of e os) rd o s) _
-      (post_bind ⊥ _ Any (fetch_all e (rd ∷ reads_of e os) rd [] s) _ (fetchAll_sure _ rd [] s (omega (arith, reads_two e o)))
+      (post_bind ⊥ _ Any (fetch_all e (rd ∷ reads_of e os) rd [] s) _ (fetch_all_sure _ rd [] s (omega (arith, reads_two e o)))
       (λ g l. task_sure (reads_of e os) rd o g (omega (arith, reads_two e o, l))))
       (λ s' u. run_sure h os s')

@@ -71,20 +71,20 @@ pub record FetchedAll (e : Setting) (home : List ℕ) (ds ns : List ℕ) (s : St
 
 module _ (e : Setting) (home : List ℕ) (wf : Sixteen e) where
   -- THE FETCHES of a task
-  pub fetchAll_fetched : (rest : List (List ℕ)) (ns ds locked : List ℕ) (s : State) → Good e home s → ((m : ℕ) → T (member m ns) → m < length e.origins)
+  pub fetch_all_fetched : (rest : List (List ℕ)) (ns ds locked : List ℕ) (s : State) → Good e home s → ((m : ℕ) → T (member m ns) → m < length e.origins)
       → Holds s ds locked
       → Post (Unit {0}) (FetchedAll e home ds ns s) (fetch_all e rest ns locked s)
   unfolding fetch_all
-  fetchAll_fetched rest [] ds locked s g ln h =
+  fetch_all_fetched rest [] ds locked s g ln h =
       record { good = g; held = rw append-nil h; keep = λ m t. t; grow = omega arith; only = λ m q h. inr h; fresh = refl; quiet = λ h. refl }
-  fetchAll_fetched rest (n ∷ ns) ds locked s g ln h =
+  fetch_all_fetched rest (n ∷ ns) ds locked s g ln h =
       post_bind (Unit {0}) (Fetched e home n locked s) (FetchedAll e home ds (n ∷ ns) s) (fetch e rest n locked s) _
       (fetch_fetched e home wf rest n locked s g (ln n (or_first (eqb n n) (member n ns) (eqb_refl n))))
       (λ t k.
       let ds' : List ℕ = ds ++ (n ∷ []) in
       let lk' : List ℕ = locked ++ (t.register ∷ []) in
       weaken t k (fetch_all e rest ns lk' t.state)
-      (fetchAll_fetched rest ns ds' lk' t.state k.good (λ m u. ln m (member_skip m n ns u))
+      (fetch_all_fetched rest ns ds' lk' t.state k.good (λ m u. ln m (member_skip m n ns u))
       (holds_snoc t.state ds locked n t.register (holds_keep locked s t.state k.keeps ds locked (λ q u. u) h) k.held)))
     where
       one : (t : Taken) → Fetched e home n locked s t → (u : TakenAll) → FetchedAll e home (ds ++ (n ∷ [])) ns t.state u → FetchedAll e home ds (n ∷ ns) s u
@@ -138,10 +138,10 @@ module _ (e : Setting) (home : List ℕ) (wf : Sixteen e) (rest : List (List ℕ
       }
 
   -- THE RELEASES of a task
-  pub releaseAll_let : (ns : List ℕ) (s : State) → Good e home s → Good e home (release_all e rest ns s) × Let rest s (release_all e rest ns s)
+  pub release_all_let : (ns : List ℕ) (s : State) → Good e home s → Good e home (release_all e rest ns s) × Let rest s (release_all e rest ns s)
   unfolding release_all
-  releaseAll_let [] s g = (g, record { keep = λ m t h. h; hold = λ m t. refl; only = λ m q h. h; steps = refl; fresh = refl })
-  releaseAll_let (n ∷ ns) s g = go (read_later rest n) refl (λ s' g'. releaseAll_let ns s' g')
+  release_all_let [] s g = (g, record { keep = λ m t h. h; hold = λ m t. refl; only = λ m q h. h; steps = refl; fresh = refl })
+  release_all_let (n ∷ ns) s g = go (read_later rest n) refl (λ s' g'. release_all_let ns s' g')
     where
       go : (b : Bool) → read_later rest n ≡ b → ((s' : State) → Good e home s' → Good e home (release_all e rest ns s') × Let rest s' (release_all e rest ns s'))
           → Good e home (release_all e rest ns (release_if b e n s)) × Let rest s (release_all e rest ns (release_if b e n s))

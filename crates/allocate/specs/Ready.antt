@@ -177,7 +177,7 @@ module _ (frame : Frame) (work owner : List ℕ) (freed : ℕ) (ready : Ready fr
       record {
         wide = wide_set j word;
         owners = ready.owners;
-        holders = λ i h. go i h (decEq_at i);
+        holders = λ i h. go i h (dec_eq_at i);
         room = rw (part_out (spilled_at frame 0) frame.nodes work j word (away out)) ready.room;
       }
     where
@@ -185,8 +185,8 @@ module _ (frame : Frame) (work owner : List ℕ) (freed : ℕ) (ready : Ready fr
       away (inl q) = inl (omega arith)
       away (inr q) = inr (omega arith)
 
-      decEq_at : (i : ℕ) → (eqb (holder_at frame i) j ≡ true) ⊎ (eqb (holder_at frame i) j ≡ false)
-      decEq_at i = two (eqb (holder_at frame i) j) refl
+      dec_eq_at : (i : ℕ) → (eqb (holder_at frame i) j ≡ true) ⊎ (eqb (holder_at frame i) j ≡ false)
+      dec_eq_at i = two (eqb (holder_at frame i) j) refl
         where
           two : (b : Bool) → eqb (holder_at frame i) j ≡ b → (eqb (holder_at frame i) j ≡ true) ⊎ (eqb (holder_at frame i) j ≡ false)
           two true e = inl e

@@ -18,7 +18,7 @@ use Rattle.allocate.specs.Allocator.{read_later, home_code, fetch_all, run_task,
 use Rattle.allocate.specs.Outcomes.{Post, post_bind}
 use Rattle.allocate.specs.Pressure.{reads_two}
 use Rattle.allocate.specs.StateLaws.{Good, Sixteen}
-use Rattle.allocate.specs.ReadLaws.{FetchedAll, fetchAll_fetched}
+use Rattle.allocate.specs.ReadLaws.{FetchedAll, fetch_all_fetched}
 use Rattle.allocate.specs.TaskLaws.{Invariant, ReadsOk, Next, known, compute_next, keep_next, store_next}
 
 -- a keep reads its value
@@ -99,7 +99,7 @@ module _ (e : Setting) (home : List ℕ) (wf : Sixteen e) (hk : HomesOk home e.f
       let rest : List (List ℕ) = reads_of e os in
       after rest os (n ∷ done) (suc n) 6 s (allocate_task e rest rd (compute_task n) s)
       (post_bind (Unit {0}) (FetchedAll e home [] rd s) (Fits rest (n ∷ done) (suc n) 6 s) (fetch_all e (rd ∷ rest) rd [] s) _
-      (fetchAll_fetched e home wf (rd ∷ rest) rd [] [] s i.good (λ m t. (o.0 m t).0) tt)
+      (fetch_all_fetched e home wf (rd ∷ rest) rd [] [] s i.good (λ m t. (o.0 m t).0) tt)
       (λ g f. lift (run_compute e rest rd n g) (compute_next e home wf done rest rd n s g i o.0 o.1 o.2 f)))
       (λ s' i' h'. run_ran os (n ∷ done) (suc n) s' o.3 i' h')
     where
@@ -114,7 +114,7 @@ module _ (e : Setting) (home : List ℕ) (wf : Sixteen e) (hk : HomesOk home e.f
       let rest : List (List ℕ) = reads_of e os in
       after rest os done 0 1 s (allocate_task e rest rd (keep_task k v) s)
       (post_bind (Unit {0}) (FetchedAll e home [] rd s) (Fits rest done 0 1 s) (fetch_all e (rd ∷ rest) rd [] s) _
-      (fetchAll_fetched e home wf (rd ∷ rest) rd [] [] s i.good (λ m t. (o.0 m t).0) tt)
+      (fetch_all_fetched e home wf (rd ∷ rest) rd [] [] s i.good (λ m t. (o.0 m t).0) tt)
       (λ g f. lift g f (run_keep e rest rd k v g) (keep_next e home wf done rest rd k v s g i o.0 o.3 (hk.lt v k o.3) (λ m l. hk.inj m l k) f)))
       (λ s' i' h'. run_ran os done 0 s' o.4 i' h')
     where
@@ -135,7 +135,7 @@ module _ (e : Setting) (home : List ℕ) (wf : Sixteen e) (hk : HomesOk home e.f
       let rest : List (List ℕ) = reads_of e os in
       after rest os done 0 5 s (allocate_task e rest rd (store_task c j v) s)
       (post_bind (Unit {0}) (FetchedAll e home [] rd s) (Fits rest done 0 5 s) (fetch_all e (rd ∷ rest) rd [] s) _
-      (fetchAll_fetched e home wf (rd ∷ rest) rd [] [] s i.good (λ m t. (o.0 m t).0) tt)
+      (fetch_all_fetched e home wf (rd ∷ rest) rd [] [] s i.good (λ m t. (o.0 m t).0) tt)
       (λ g f. lift (run_store e rest rd c j g) (store_next e home wf done rest rd c j s g i o.0
       (λ n q. (
         (home_known e.origins (home_code c) j n q).0,

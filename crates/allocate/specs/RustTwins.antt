@@ -202,13 +202,13 @@ module _ (e : Setting) (fr : List Bool) where
   abbrev TwinTakenAll : Allocated TakenAll → Allocated TakenAll → Type 0
   TwinTakenAll y x = (y ≡ map_taken_all fr x) × Post (Unit {0}) (λ g. Twin g.state) x
 
-  fetchAll_twin : (rest : List (List ℕ)) (ns locked : List ℕ) (s : State) → Twin s → ((n : ℕ) → T (member n ns) → Canonical e n)
+  fetch_all_twin : (rest : List (List ℕ)) (ns locked : List ℕ) (s : State) → Twin s → ((n : ℕ) → T (member n ns) → Canonical e n)
       → TwinTakenAll (fetch_all e rest ns locked (with_fresh fr s)) (fetch_all e rest ns locked s)
   unfolding fetch_all
-  fetchAll_twin rest [] locked s t c = (refl, t)
-  fetchAll_twin rest (n ∷ ns) locked s t c =
+  fetch_all_twin rest [] locked s t c = (refl, t)
+  fetch_all_twin rest (n ∷ ns) locked s t c =
       let w = fetch_twin rest n locked s t (c n (or_first (eqb n n) (member n ns) (eqb_refl n))) in
-      rw w.0 (more (fetch e rest n locked s) w.1 (λ l a k. fetchAll_twin rest ns l a k (λ m u. c m (or_second (eqb m n) (member m ns) u))))
+      rw w.0 (more (fetch e rest n locked s) w.1 (λ l a k. fetch_all_twin rest ns l a k (λ m u. c m (or_second (eqb m n) (member m ns) u))))
     where
       more : (x : Allocated Taken) → Post (Unit {0}) (λ g. Twin g.state) x
           → ((l : List ℕ) (a : State) → Twin a → TwinTakenAll (fetch_all e rest ns l (with_fresh fr a)) (fetch_all e rest ns l a))
@@ -225,11 +225,11 @@ module _ (e : Setting) (fr : List Bool) where
       was q m zero h = h
       was q m (suc r) h = unset s.owner r q m h
 
-  releaseAll_twin : (rest : List (List ℕ)) (ns : List ℕ) (s : State) → Twin s
+  release_all_twin : (rest : List (List ℕ)) (ns : List ℕ) (s : State) → Twin s
       → (release_all e rest ns (with_fresh fr s) ≡ with_fresh fr (release_all e rest ns s)) × Twin (release_all e rest ns s)
   unfolding release_all
-  releaseAll_twin rest [] s t = (refl, t)
-  releaseAll_twin rest (n ∷ ns) s t = go (read_later rest n) (λ a k. releaseAll_twin rest ns a k)
+  release_all_twin rest [] s t = (refl, t)
+  release_all_twin rest (n ∷ ns) s t = go (read_later rest n) (λ a k. release_all_twin rest ns a k)
     where
       go : (b : Bool) → ((a : State) → Twin a → (release_all e rest ns (with_fresh fr a) ≡ with_fresh fr (release_all e rest ns a)) × Twin (release_all e rest ns a))
           → (release_all e rest ns (release_if b e n (with_fresh fr s)) ≡ with_fresh fr (release_all e rest ns (release_if b e n s))) × Twin
@@ -267,7 +267,7 @@ module _ (e : Setting) (fr : List Bool) where
       more (allocated a) k =
           let x : Operation = lower (node_at e.nodes n) a.register g.registers in
           let p = operation_twin x a.state k in
-          let q = releaseAll_twin rest reads (emit_operation x a.state) p.1 in
+          let q = release_all_twin rest reads (emit_operation x a.state) p.1 in
           ((λ i. allocated ((ap (release_all e rest reads) p.0 ∙ q.0) i)), q.1)
       more all_locked k = (refl, tt)
 
@@ -275,7 +275,7 @@ module _ (e : Setting) (fr : List Bool) where
       → TwinState (run_keep e rest reads k v (with_fresh_all g)) (run_keep e rest reads k v g)
   unfolding run_keep set_slot emit
   keep_twin rest reads k v g t =
-      let q = releaseAll_twin rest reads (set_slot v k (emit (store_control k (get_or g.registers 0 0)) g.state)) (record { agree = t.agree; own = t.own }) in
+      let q = release_all_twin rest reads (set_slot v k (emit (store_control k (get_or g.registers 0 0)) g.state)) (record { agree = t.agree; own = t.own }) in
       ((λ i. allocated (q.0 i)), q.1)
 
   preserve_twin : (rest : List (List ℕ)) (locked : List ℕ) (s : State) → Twin s → (h : ℕ) → ((n : ℕ) → h ≡ suc n → Canonical e n)
@@ -345,7 +345,7 @@ module _ (e : Setting) where
           let p = emit_twin e fr x a k in
           let fr' : List Bool = hide_loads (home_code c) i e.origins fr in
           let z = hidden fr (home_code c) i (emit x a) p.1 in
-          let q = releaseAll_twin e fr' rest reads (stale h (emit x a)) z in (
+          let q = release_all_twin e fr' rest reads (stale h (emit x a)) z in (
             fr',
             ap (λ (s : State). release_all e rest reads (hide_all e (home_code c) i s)) p.0
                 ∙ (ap (release_all e rest reads) (hide_same fr (home_code c) i h (emit x a)) ∙ q.0),
@@ -374,7 +374,7 @@ module _ (e : Setting) where
   run_alike (o ∷ os) p fr s t =
       let rd : List ℕ = task_reads e.nodes e.origins o in
       let rest : List (List ℕ) = reads_of e os in
-      let w = fetchAll_twin e fr (rd ∷ rest) rd [] s t (λ n u. reads_canonical e o n u) in
+      let w = fetch_all_twin e fr (rd ∷ rest) rd [] s t (λ n u. reads_canonical e o n u) in
       rw w.0
       (next (fetch_all e (rd ∷ rest) rd [] s) w.1 (λ g k. task_alike rest rd o fr g (own_reads e os) p.0 k) (λ fr' a k. run_alike os p.1 fr' a k))
     where

@@ -86,12 +86,12 @@ fetch_grew e rest n locked s = go (register_of s n)
         (λ g h. grew_trans s g.state (bring e n g.register g.state) h (bring_grew e n g.register g.state))
     go (suc r) = grew_refl s
 
-fetchAll_grew : (e : Setting) (rest : List (List ℕ)) (ns locked : List ℕ) (s : State) → Post (Unit {0}) (λ g. Grew s g.state) (fetch_all e rest ns locked s)
+fetch_all_grew : (e : Setting) (rest : List (List ℕ)) (ns locked : List ℕ) (s : State) → Post (Unit {0}) (λ g. Grew s g.state) (fetch_all e rest ns locked s)
 unfolding fetch_all
-fetchAll_grew e rest [] locked s = grew_refl s
-fetchAll_grew e rest (n ∷ ns) locked s =
+fetch_all_grew e rest [] locked s = grew_refl s
+fetch_all_grew e rest (n ∷ ns) locked s =
     post_bind (Unit {0}) (GrewTaken s) (λ g. Grew s g.state) (fetch e rest n locked s) _ (fetch_grew e rest n locked s) (λ g h.
-    more g h (fetch_all e rest ns (locked ++ (g.register ∷ [])) g.state) (fetchAll_grew e rest ns (locked ++ (g.register ∷ [])) g.state))
+    more g h (fetch_all e rest ns (locked ++ (g.register ∷ [])) g.state) (fetch_all_grew e rest ns (locked ++ (g.register ∷ [])) g.state))
   where
     more : (g : Taken) → Grew s g.state → (x : Allocated TakenAll) → Post (Unit {0}) (λ u. Grew g.state u.state) x
         → Post (Unit {0}) (λ u. Grew s u.state) x
@@ -102,10 +102,10 @@ release_grew : (e : Setting) (n : ℕ) (s : State) → Grew s (release e n s)
 unfolding release
 release_grew e n s = record { slots = omega arith }
 
-releaseAll_grew : (e : Setting) (rest : List (List ℕ)) (ns : List ℕ) (s : State) → Grew s (release_all e rest ns s)
+release_all_grew : (e : Setting) (rest : List (List ℕ)) (ns : List ℕ) (s : State) → Grew s (release_all e rest ns s)
 unfolding release_all
-releaseAll_grew e rest [] s = grew_refl s
-releaseAll_grew e rest (n ∷ ns) s = go (read_later rest n) (λ s'. releaseAll_grew e rest ns s')
+release_all_grew e rest [] s = grew_refl s
+release_all_grew e rest (n ∷ ns) s = go (read_later rest n) (λ s'. release_all_grew e rest ns s')
   where
     go : (b : Bool) → ((s' : State) → Grew s' (release_all e rest ns s')) → Grew s (release_all e rest ns (release_if b e n s))
     go true ih = ih s
@@ -129,9 +129,9 @@ unfolding stale
 stale_grew zero s = grew_refl s
 stale_grew (suc n) s = record { slots = omega arith }
 
-setSlot_grew : (v k : ℕ) (s : State) → Grew s (set_slot v k s)
+set_slot_grew : (v k : ℕ) (s : State) → Grew s (set_slot v k s)
 unfolding set_slot
-setSlot_grew v k s = record { slots = omega arith }
+set_slot_grew v k s = record { slots = omega arith }
 
 task_grew : (e : Setting) (rest : List (List ℕ)) (reads : List ℕ) (o : Task) (g : TakenAll) → Post (Unit {0}) (λ s'. Grew g.state s') (run_task e rest reads o g)
 unfolding run_task run_compute run_keep run_store
@@ -140,17 +140,17 @@ task_grew e rest reads (compute_task n) g =
     (result_grew e rest n g.registers g.state (first_of (λ d. not (read_later rest d)) reads)) (λ t h.
     let x : Operation = lower (node_at e.nodes n) t.register g.registers in
     grew_trans g.state t.state _ h (grew_trans t.state (emit_operation x t.state) _ (operation_grew x t.state)
-    (releaseAll_grew e rest reads (emit_operation x t.state))))
+    (release_all_grew e rest reads (emit_operation x t.state))))
 task_grew e rest reads (keep_task k v) g =
     let a : State = emit (store_control k (get_or g.registers 0 0)) g.state in
     grew_trans g.state a _ (emit_grew (store_control k (get_or g.registers 0 0)) g.state)
-    (grew_trans a (set_slot v k a) _ (setSlot_grew v k a) (releaseAll_grew e rest reads (set_slot v k a)))
+    (grew_trans a (set_slot v k a) _ (set_slot_grew v k a) (release_all_grew e rest reads (set_slot v k a)))
 task_grew e rest reads (store_task c i v) g =
     let h : ℕ = home_of e.origins (home_code c) i in
     let x : Action = store_action c i (get_or g.registers 0 0) in
     post_bind (Unit {0}) (λ s'. Grew g.state s') _ (preserve e rest g.registers g.state h) _ (preserve_grew e rest g.registers g.state h) (λ t q.
     grew_trans g.state t _ q (grew_trans t (emit x t) _ (emit_grew x t)
-    (grew_trans (emit x t) (stale h (emit x t)) _ (stale_grew h (emit x t)) (releaseAll_grew e rest reads (stale h (emit x t))))))
+    (grew_trans (emit x t) (stale h (emit x t)) _ (stale_grew h (emit x t)) (release_all_grew e rest reads (stale h (emit x t))))))
 
 -- a whole run
 pub run_grew : (e : Setting) (os : List Task) (s : State) → Post (Unit {0}) (λ s'. Grew s s') (allocate e os s)
@@ -159,7 +159,7 @@ run_grew e [] s = grew_refl s
 run_grew e (o ∷ os) s =
     let rd : List ℕ = task_reads e.nodes e.origins o in
     post_bind (Unit {0}) (λ s'. Grew s s') _ (allocate_task e (reads_of e os) rd o s) _
-    (post_bind (Unit {0}) (λ g. Grew s g.state) _ (fetch_all e (rd ∷ reads_of e os) rd [] s) _ (fetchAll_grew e (rd ∷ reads_of e os) rd [] s)
+    (post_bind (Unit {0}) (λ g. Grew s g.state) _ (fetch_all e (rd ∷ reads_of e os) rd [] s) _ (fetch_all_grew e (rd ∷ reads_of e os) rd [] s)
     (λ g h. join g.state h (run_task e (reads_of e os) rd o g) (task_grew e (reads_of e os) rd o g)))
     (λ s' h. join s' h (allocate e os s') (run_grew e os s'))
   where

@@ -43,13 +43,13 @@ pub data TakeView (e : Setting) (n : ℕ) (locked : List ℕ) (s : State) : Allo
       → TakeView e n locked s (allocated (record { register = r; state = place n r (evict e v r s) }))
   none : TakeView e n locked s all_locked
 
-isZero_suc : (n : ℕ) → is_none n ≡ false → n ≡ suc (pred n)
-isZero_suc zero h = let z : ◌≡◌ {A = ℕ} 0 1 = cc in omega arith
-isZero_suc (suc n) h = omega arith
+is_zero_suc : (n : ℕ) → is_none n ≡ false → n ≡ suc (pred n)
+is_zero_suc zero h = let z : ◌≡◌ {A = ℕ} 0 1 = cc in omega arith
+is_zero_suc (suc n) h = omega arith
 
-isZero_zero : (n : ℕ) → is_none n ≡ true → n ≡ 0
-isZero_zero zero h = refl
-isZero_zero (suc n) h = let z : ◌≡◌ {A = ℕ} 0 1 = cc in omega arith
+is_zero_zero : (n : ℕ) → is_none n ≡ true → n ≡ 0
+is_zero_zero zero h = refl
+is_zero_zero (suc n) h = let z : ◌≡◌ {A = ℕ} 0 1 = cc in omega arith
 
 not_T : (b : Bool) → T (not b) → T b → ⊥
 not_T true t u = t
@@ -68,14 +68,14 @@ take_view e rest n locked s = go (first_of (λ r. is_none (owner_of s r)) e.regi
     go₂ (suc r) q h =
         let m : T (member r e.registers) × T (not (member r locked)) = filter_member (λ r. not (member r locked)) e.registers r
         (best_member (evict_key rest s) xs r q) in
-        evicted r (pred (owner_of s r)) (isZero_suc (owner_of s r) (first_zero (λ r. is_none (owner_of s r)) e.registers r h m.0)) m.0
+        evicted r (pred (owner_of s r)) (is_zero_suc (owner_of s r) (first_zero (λ r. is_none (owner_of s r)) e.registers r h m.0)) m.0
         (not_T (member r locked) m.1)
 
     go : (f : ℕ) → first_of (λ r. is_none (owner_of s r)) e.registers ≡ f → TakeView e n locked s (take_free e rest n locked s f)
     go zero q = go₂ (best (evict_key rest s) xs) refl q
     go (suc r) q =
         let p : T (member r e.registers) × (is_none (owner_of s r) ≡ true) = first_some (λ r. is_none (owner_of s r)) e.registers r q in
-        was_free r (isZero_zero (owner_of s r) p.1) p.0
+        was_free r (is_zero_zero (owner_of s r) p.1) p.0
 
 -- the usable registers are below sixteen, in ascending order
 pub record Sixteen (e : Setting) : Type 0 where

@@ -21,7 +21,7 @@ use Rattle.allocate.specs.Outcomes.{Post, post_bind}
 use Rattle.allocate.specs.Invariants.{slots_home}
 use Rattle.allocate.specs.StateLaws.{Good, avail, Sixteen, Keeps}
 use Rattle.allocate.specs.FetchLaws.{Fetched, fetch_fetched, Brought, brought_emit, brought_operation, keeps_brought}
-use Rattle.allocate.specs.ReadLaws.{FetchedAll, Let, releaseAll_let, Aimed, target_aimed}
+use Rattle.allocate.specs.ReadLaws.{FetchedAll, Let, release_all_let, Aimed, target_aimed}
 
 -- a disjunction's second part may be weakened
 pub or_map : (a b c : Bool) → (T b → T c) → T (a || b) → T (a || c)
@@ -123,7 +123,7 @@ module _ (e : Setting) (home : List ℕ) (wf : Sixteen e) (done : List ℕ) (res
       last t k x =
           let u : State = emit_operation x t.state in
           let b : Brought t.state u = brought_operation x t.state in
-          let l : Good e home (release_all e rest reads u) × Let rest u (release_all e rest reads u) = releaseAll_let
+          let l : Good e home (release_all e rest reads u) × Let rest u (release_all e rest reads u) = release_all_let
           e home wf rest reads u (b.good e home k.good) in
           let hu : register_of u n ≡ suc t.register = rw b.holder k.held in
           let hot : T (read_later rest n) → T (is_some (register_of (release_all e rest reads u) n)) = λ y. rw (l.1.hold n y, hu) tt in (
@@ -175,7 +175,7 @@ module _ (e : Setting) (home : List ℕ) (wf : Sixteen e) (done : List ℕ) (res
         src = ga.src;
         held = ga.held;
       } in
-      let l : Good e home (release_all e rest reads u) × Let rest u (release_all e rest reads u) = releaseAll_let e home wf rest reads u gu in (
+      let l : Good e home (release_all e rest reads u) × Let rest u (release_all e rest reads u) = release_all_let e home wf rest reads u gu in (
         record {
           good = l.0;
           ready =
@@ -317,7 +317,7 @@ module _ (e : Setting) (home : List ℕ) (wf : Sixteen e) (done : List ℕ) (res
           let b : Brought t a = brought_emit x t in
           let u : State = stale h a in
           let z : Staled e home wf rest h a u = stales e home wf rest h a in
-          let l : Good e home (release_all e rest reads u) × Let rest u (release_all e rest reads u) = releaseAll_let
+          let l : Good e home (release_all e rest reads u) × Let rest u (release_all e rest reads u) = release_all_let
           e home wf rest reads u (z.good (b.good e home k.good)) in
           record {
             inv =

@@ -26,7 +26,7 @@ use Rattle.plan.specs.TestLaws.{or_first, or_second}
 use Rattle.plan.specs.Flow.{node_in, flow_of}
 use Rattle.plan.specs.FlowLaws.{IsNode, good_flow}
 use Rattle.plan.specs.Hoist.{needed_by, mark_all}
-use Rattle.plan.specs.Reached.{length_markAll, length_sweep}
+use Rattle.plan.specs.Reached.{length_mark_all, length_sweep}
 use Rattle.plan.specs.Origins.{Origin, has_origin, control_origin, canonical}
 use Rattle.plan.specs.Origins as Origins
 use Rattle.plan.specs.OriginLaws.{number_lt, number_length, sample_at, sample_none, sample_length}
@@ -488,7 +488,7 @@ module _ (sizes : Sizes) (nodes updates stores : List ℕ) (output words : ℕ) 
   needed_count =
       flags_length (needed_of flow)
       ∙ (length_sweep flow.nodes _ (length flow.nodes) (mark_all (roots flow) (replicate (length flow.nodes) false))
-      ∙ (length_markAll (roots flow) (replicate (length flow.nodes) false) ∙ (length-replicate (length flow.nodes) false ∙ flow_count)))
+      ∙ (length_mark_all (roots flow) (replicate (length flow.nodes) false) ∙ (length-replicate (length flow.nodes) false ∙ flow_count)))
 
   reached_count : length (flags (reached_of flow)) ≡ sizes.nodes
   reached_count =

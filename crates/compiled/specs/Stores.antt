@@ -148,22 +148,22 @@ module _ (code index : ℕ) where
           (λ g h. bring_quiet e n g.register g.state ∙ h)
       go (suc r) = refl
 
-  fetchAll_quiet : (e : Setting) (rest : List (List ℕ)) (ns locked : List ℕ) (s : State) → Post (Unit {0}) (λ g. Quiet s g.state) (fetch_all e rest ns locked s)
+  fetch_all_quiet : (e : Setting) (rest : List (List ℕ)) (ns locked : List ℕ) (s : State) → Post (Unit {0}) (λ g. Quiet s g.state) (fetch_all e rest ns locked s)
   unfolding fetch_all
-  fetchAll_quiet e rest [] locked s = refl
-  fetchAll_quiet e rest (n ∷ ns) locked s =
+  fetch_all_quiet e rest [] locked s = refl
+  fetch_all_quiet e rest (n ∷ ns) locked s =
       post_bind (Unit {0}) (QuietTaken s) (λ g. Quiet s g.state) (fetch e rest n locked s) _ (fetch_quiet e rest n locked s) (λ g h.
-      more g h (fetch_all e rest ns (locked ++ (g.register ∷ [])) g.state) (fetchAll_quiet e rest ns (locked ++ (g.register ∷ [])) g.state))
+      more g h (fetch_all e rest ns (locked ++ (g.register ∷ [])) g.state) (fetch_all_quiet e rest ns (locked ++ (g.register ∷ [])) g.state))
     where
       more : (g : Taken) → Quiet s g.state → (x : Allocated TakenAll) → Post (Unit {0}) (λ u. Quiet g.state u.state) x
           → Post (Unit {0}) (λ u. Quiet s u.state) x
       more g h (allocated u) k = k ∙ h
       more g h all_locked k = tt
 
-  releaseAll_quiet : (e : Setting) (rest : List (List ℕ)) (ns : List ℕ) (s : State) → Quiet s (release_all e rest ns s)
+  release_all_quiet : (e : Setting) (rest : List (List ℕ)) (ns : List ℕ) (s : State) → Quiet s (release_all e rest ns s)
   unfolding release_all release
-  releaseAll_quiet e rest [] s = refl
-  releaseAll_quiet e rest (n ∷ ns) s = go (read_later rest n) (λ s'. releaseAll_quiet e rest ns s')
+  release_all_quiet e rest [] s = refl
+  release_all_quiet e rest (n ∷ ns) s = go (read_later rest n) (λ s'. release_all_quiet e rest ns s')
     where
       go : (b : Bool) → ((s' : State) → Quiet s' (release_all e rest ns s')) → Quiet s (release_all e rest ns (release_if b e n s))
       go true ih = ih s
@@ -196,17 +196,17 @@ module _ (code index : ℕ) where
       post_bind (Unit {0}) (QuietTaken g.state) _ (result_register e rest n g.registers g.state (first_of (λ d. not (read_later rest d)) reads)) _
       (result_quiet e rest n g.registers g.state (first_of (λ d. not (read_later rest d)) reads)) (λ t h.
       let x : Operation = lower (node_at e.nodes n) t.register g.registers in
-      omega (arith, releaseAll_quiet e rest reads (emit_operation x t.state), quiet_step t.state.steps (compute x) refl, h))
+      omega (arith, release_all_quiet e rest reads (emit_operation x t.state), quiet_step t.state.steps (compute x) refl, h))
   task_adds e rest reads (keep_task k v) g =
       let x : Action = store_control k (get_or g.registers 0 0) in
-      omega (arith, releaseAll_quiet e rest reads (set_slot v k (emit x g.state)), quiet_step g.state.steps x refl)
+      omega (arith, release_all_quiet e rest reads (set_slot v k (emit x g.state)), quiet_step g.state.steps x refl)
   task_adds e rest reads (store_task c i v) g =
       let h : ℕ = home_of e.origins (home_code c) i in
       let x : Action = store_action c i (get_or g.registers 0 0) in
       post_bind (Unit {0}) (λ s'. Quiet g.state s') _ (preserve e rest g.registers g.state h) _ (preserve_quiet e rest g.registers g.state h) (λ t q.
       omega (
         arith,
-        releaseAll_quiet e rest reads (stale h (emit x t)),
+        release_all_quiet e rest reads (stale h (emit x t)),
         ap stores (stale_steps h (emit x t)),
         stores_append t.steps (x ∷ []),
         any_register c i (get_or g.registers 0 0),
@@ -249,7 +249,7 @@ abbrev Still : State → State → Type 0
 Still s s' = (c i : ℕ) → Quiet c i s s'
 
 fetches_still : (e : Setting) (rest : List (List ℕ)) (ns locked : List ℕ) (s : State) → Post (Unit {0}) (λ g. Still s g.state) (fetch_all e rest ns locked s)
-fetches_still e rest ns locked s = post_each (λ c i g. Quiet c i s g.state) (fetch_all e rest ns locked s) (λ c i. fetchAll_quiet c i e rest ns locked s)
+fetches_still e rest ns locked s = post_each (λ c i g. Quiet c i s g.state) (fetch_all e rest ns locked s) (λ c i. fetch_all_quiet c i e rest ns locked s)
 
 -- the output's task is the last: nothing is emitted after its store
 last_task : (e : Setting) (v : ℕ) (s : State) → Post (Unit {0}) (λ s'. Ended (λ c i. stores c i s.steps) s'.steps) (allocate e (store_task 12 0 v ∷ []) s)

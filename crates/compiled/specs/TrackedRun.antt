@@ -16,13 +16,13 @@ use Rattle.allocate.specs.Allocator.{fetch_all, read_later, run_compute, run_kee
 use Rattle.allocate.specs.Outcomes.{Post, post_bind, post_and}
 use Rattle.allocate.specs.Invariants.{slots_home}
 use Rattle.allocate.specs.StateLaws.{Good, Sixteen}
-use Rattle.allocate.specs.ReadLaws.{Holds, FetchedAll, fetchAll_fetched}
+use Rattle.allocate.specs.ReadLaws.{Holds, FetchedAll, fetch_all_fetched}
 use Rattle.allocate.specs.TaskLaws.{Invariant, ReadsOk, known, Next, compute_next, keep_next, store_next, fetched_known}
 use Rattle.allocate.specs.RunLaws.{TasksOk, HomesOk, reads_keep, reads_store}
 use Rattle.allocate.specs.Canonical.{reads_canonical}
 use Rattle.compiled.specs.Marks.{Marks, Rules}
 use Rattle.compiled.specs.Tracking.{LeadsTo, SlotsGrow, grows_same, grows_trans, SlotsDeclared, declared_back, Tracks, KeepsFilled}
-use Rattle.compiled.specs.TrackedTasks.{Meaning, WriteAt, fetchAll_tracked, compute_tracked, keep_tracked, write_tracked}
+use Rattle.compiled.specs.TrackedTasks.{Meaning, WriteAt, fetch_all_tracked, compute_tracked, keep_tracked, write_tracked}
 
 -- what the tasks owe the walk: what is computed is a computation, control values are kept in control, a write stores what is asked for in sample
 abbrev pub TasksAllowed : Setting → Rules → (ℕ → ℕ) → List Task → Type 0
@@ -63,8 +63,8 @@ module _ (e : Setting) (home : List ℕ) (sixteen : Sixteen e) (own : HomesOk ho
   fetches o rest done s i rd =
       let reads : List ℕ = task_reads e.nodes e.origins o in
       post_and (FetchedAll e home [] reads s) (λ g. Leads s g.state) (fetch_all e (reads ∷ rest) reads [] s)
-      (fetchAll_fetched e home sixteen (reads ∷ rest) reads [] [] s i.good (λ m t. (rd m t).0) tt)
-      (fetchAll_tracked e home sixteen own R class meaning start (reads ∷ rest) reads [] s i.good
+      (fetch_all_fetched e home sixteen (reads ∷ rest) reads [] [] s i.good (λ m t. (rd m t).0) tt)
+      (fetch_all_tracked e home sixteen own R class meaning start (reads ∷ rest) reads [] s i.good
       (λ m t. ((rd m t).0, reads_canonical e o m t, i.ready m (or_first (member m reads) (read_later rest m) t) (rd m t).1)))
 
   zero_of : (k : ℕ) → ((q : ℕ) → k ≡ suc q → ⊥) → k ≡ 0

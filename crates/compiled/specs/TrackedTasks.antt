@@ -92,18 +92,18 @@ module _ (e : Setting) (home : List ℕ) (sixteen : Sixteen e) (own : HomesOk ho
   )
 
   -- OPERANDS ARE FETCHED
-  pub fetchAll_tracked : (rest : List (List ℕ)) (ns locked : List ℕ) (s : State) → Good e home s
+  pub fetch_all_tracked : (rest : List (List ℕ)) (ns locked : List ℕ) (s : State) → Good e home s
       → ((a : ℕ) → T (member a ns) → (a < length e.origins) × Canonical e a × T (avail s a))
       → Post (Unit {0}) (λ g. Leads s g.state) (fetch_all e rest ns locked s)
   unfolding fetch_all
-  fetchAll_tracked rest [] locked s g h = (grows_same s, λ f m t. (m, t, λ k u. u))
-  fetchAll_tracked rest (n ∷ ns) locked s g h =
+  fetch_all_tracked rest [] locked s g h = (grows_same s, λ f m t. (m, t, λ k u. u))
+  fetch_all_tracked rest (n ∷ ns) locked s g h =
       let h₀ = h n (or_first (eqb n n) (member n ns) (eqb_refl n)) in
       post_bind (Unit {0}) (λ a. Fetched e home n locked s a × Leads s a.state) (λ g. Leads s g.state) (fetch e rest n locked s) _
       (post_and (Fetched e home n locked s) (λ a. Leads s a.state) (fetch e rest n locked s) (fetch_fetched e home sixteen rest n locked s g h₀.0)
       (fetch_tracked e home sixteen own R class meaning.sources start rest n locked s g h₀.0 h₀.1 h₀.2))
       (λ a k. more a k.1 (fetch_all e rest ns (locked ++ (a.register ∷ [])) a.state)
-      (fetchAll_tracked rest ns (locked ++ (a.register ∷ [])) a.state k.0.good
+      (fetch_all_tracked rest ns (locked ++ (a.register ∷ [])) a.state k.0.good
       (λ b u. let hb = h b (or_second (eqb b n) (member b ns) u) in (hb.0, hb.1, k.0.keeps.keep b hb.2))))
     where
       more : (a : Taken) → Leads s a.state → (x : Allocated TakenAll) → Post (Unit {0}) (λ g. Leads a.state g.state) x
@@ -139,10 +139,10 @@ module _ (e : Setting) (home : List ℕ) (sixteen : Sixteen e) (own : HomesOk ho
       was n' r zero q = q
       was n' r (suc h) q = unset s.owner h r n' q
 
-  releaseAll_tracked : (rest : List (List ℕ)) (ns : List ℕ) (s : State) → Leads s (release_all e rest ns s)
+  release_all_tracked : (rest : List (List ℕ)) (ns : List ℕ) (s : State) → Leads s (release_all e rest ns s)
   unfolding release_all
-  releaseAll_tracked rest [] s = (grows_same s, λ f m t. (m, t, λ k u. u))
-  releaseAll_tracked rest (n ∷ ns) s = go (read_later rest n) (λ s'. releaseAll_tracked rest ns s')
+  release_all_tracked rest [] s = (grows_same s, λ f m t. (m, t, λ k u. u))
+  release_all_tracked rest (n ∷ ns) s = go (read_later rest n) (λ s'. release_all_tracked rest ns s')
     where
       go : (b : Bool) → ((s' : State) → Leads s' (release_all e rest ns s')) → Leads s (release_all e rest ns (release_if b e n s))
       go true ih = ih s
@@ -258,7 +258,7 @@ module _ (e : Setting) (home : List ℕ) (sixteen : Sixteen e) (own : HomesOk ho
                   d.3,
                 ),
           )
-          (releaseAll_tracked rest (map (canonical e.origins) (operands (node_at e.nodes n))) u)
+          (release_all_tracked rest (map (canonical e.origins) (operands (node_at e.nodes n))) u)
 
   -- ---- a hoisted value's own slot
 
@@ -284,7 +284,7 @@ module _ (e : Setting) (home : List ℕ) (sixteen : Sixteen e) (own : HomesOk ho
       ) in
       let w : State = set_slot v k (emit (store_control k r) s) in
       let a' : Leads s w = rw same at a in
-      let z : Leads w (release_all e rest reads w) = releaseAll_tracked rest reads w in
+      let z : Leads w (release_all e rest reads w) = release_all_tracked rest reads w in
       let lv : v < length s.spilled = omega (arith, some_lt s.holder v r hv, g.holders, g.spilleds) in (
         grows_trans s w (release_all e rest reads w) a'.0 z.0,
         λ f m t.
@@ -395,4 +395,4 @@ module _ (e : Setting) (home : List ℕ) (sixteen : Sixteen e) (own : HomesOk ho
       let hv' : register_of t (canonical e.origins v) ≡ suc r =
       k.0.keeps.lock (canonical e.origins v) r hv (or_first (eqb r r) (member r rs) (eqb_refl r)) in
       leads_trans s u (release_all e rest reads u) (leads_trans s t u k.1 (store_tracked c i r v h t wc ct refl k.0.good hv' wt))
-      (releaseAll_tracked rest reads u))
+      (release_all_tracked rest reads u))

@@ -9,7 +9,7 @@ use Rattle.kernel.specs.declared.InstructionWords.TheVariants.{Formed, Malformed
 use Rattle.kernel.specs.Instructions.{instruction_of}
 use Rattle.kernel.specs.RoundTrips.{InRegisters, instruction_registers_small}
 use Rattle.kernel.specs.Instructions.{destination}
-use Rattle.machine.specs.Machine.{result, execute}
+use Rattle.machine.specs.Machine.{result_of, execute}
 use Rattle.host.specs.Outcome.{outcome_of, ran, outcome}
 
 pub refused : (words : List ℕ) (word immediate : ℕ) → instruction_of word immediate ≡ Malformed → outcome words word immediate ≡ outcome_of (Refused BadStepList) words
@@ -33,13 +33,13 @@ destination_small (IntegerSub dst lhs rhs) h = h.0
 
 -- the destination holds the result, whatever the instruction
 pub written : (words : List ℕ) (word immediate : ℕ) (i : Instruction) → length words ≡ 16 → instruction_of word immediate ≡ Formed i
-    → get_or (outcome words word immediate).words (destination i) 0 ≡ result words i
+    → get_or (outcome words word immediate).words (destination i) 0 ≡ result_of words i
 unfolding execute
 written words word immediate i sixteen e =
     let small : destination i < 16 = destination_small i (instruction_registers_small word immediate i e) in
-    rw (accepted words word immediate i e) (get_or-set_same words (destination i) (result words i) 0 (omega arith))
+    rw (accepted words word immediate i e) (get_or-set_same words (destination i) (result_of words i) 0 (omega arith))
 
 pub others : (words : List ℕ) (word immediate r : ℕ) (i : Instruction) → instruction_of word immediate ≡ Formed i → (r ≡ destination i → ⊥)
     → get_or (outcome words word immediate).words r 0 ≡ get_or words r 0
 unfolding execute
-others words word immediate r i e other = rw (accepted words word immediate i e) (get_or-set_other words (destination i) r (result words i) 0 other)
+others words word immediate r i e other = rw (accepted words word immediate i e) (get_or-set_other words (destination i) r (result_of words i) 0 other)

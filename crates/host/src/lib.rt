@@ -3,7 +3,7 @@
 
 ghost use Rattle.std.specs.Prelude.{◌≡◌, set};
 ghost use Rattle.kernel.specs.Instructions.{destination};
-ghost use Rattle.machine.specs.Machine.{register, result, execute};
+ghost use Rattle.machine.specs.Machine.{register, result_of, execute};
 ghost use Rattle.host.specs.Outcome.{outcome, outcome_of};
 
 use answers::{Refusal, Verdict};
@@ -23,7 +23,7 @@ pub struct Outcome {
 }
 
 fn read(words: [u32; 16], at: u32) -> u32
-    ensures* { λ r. ⌜ r ≡ register words at ⌝ }
+    ensures { result ≡ register words at }
 {
     let place = at as usize;
     if place < 16 {
@@ -33,7 +33,7 @@ fn read(words: [u32; 16], at: u32) -> u32
 }
 
 fn put(words: [u32; 16], at: u32, value: u32) -> [u32; 16]
-    ensures* { λ r. ⌜ r ≡ set words at value ⌝ }
+    ensures { result ≡ set words at value }
 {
     let place = at as usize;
     if place < 16 {
@@ -45,7 +45,7 @@ fn put(words: [u32; 16], at: u32, value: u32) -> [u32; 16]
 }
 
 fn result(words: [u32; 16], instruction: Instruction) -> u32
-    ensures* { λ r. ⌜ r ≡ result words instruction ⌝ }
+    ensures { result ≡ result_of words instruction }
 {
     match instruction {
         Instruction::Immediate { dst: _, value } => value,
@@ -63,7 +63,7 @@ fn result(words: [u32; 16], instruction: Instruction) -> u32
 }
 
 fn destination(instruction: Instruction) -> u32
-    ensures* { λ r. ⌜ r ≡ destination instruction ⌝ }
+    ensures { result ≡ destination instruction }
 {
     match instruction {
         Instruction::Immediate { dst, value: _ } => dst,
@@ -104,7 +104,7 @@ fn destination(instruction: Instruction) -> u32
 
 // A twin of the step run's own, which is fast only while it has one caller.
 fn execute(words: [u32; 16], instruction: Instruction) -> [u32; 16]
-    ensures* { λ r. ⌜ r ≡ execute words instruction ⌝ }
+    ensures { result ≡ execute words instruction }
 {
     let value = result(words, instruction);
     put(words, destination(instruction), value)
@@ -112,7 +112,7 @@ fn execute(words: [u32; 16], instruction: Instruction) -> [u32; 16]
 
 // The instruction by value. Words that are no instruction are refused and change nothing.
 fn executed(words: [u32; 16], word: u32, immediate: u32) -> Outcome
-    ensures* { λ r. ⌜ r ≡ outcome words word immediate ⌝ }
+    ensures { result ≡ outcome words word immediate }
 {
     let InstructionWords::Formed(instruction) = instructions::instruction_from_words(
         word, immediate,
@@ -130,7 +130,7 @@ fn executed(words: [u32; 16], word: u32, immediate: u32) -> Outcome
 
 // Takes the array out of the lent struct, runs the instruction on it by value, and stores it back.
 pub fn run_instruction(registers: &mut Registers, word: u32, immediate: u32) -> Verdict
-    ensures* { λ r. ⌜ outcome_of r registers.new.words ≡ outcome registers.old.words word immediate ⌝ }
+    ensures { outcome_of result registers.new.words ≡ outcome registers.old.words word immediate }
 {
     let words = registers.words;
     let done = executed(words, word, immediate);
@@ -140,7 +140,7 @@ pub fn run_instruction(registers: &mut Registers, word: u32, immediate: u32) -> 
 
 // "The sixteen registers go in and come back as one array of words": for callers that have the array itself.
 pub fn run_on(registers: [u32; 16], word: u32, immediate: u32) -> Outcome
-    ensures* { λ r. ⌜ r ≡ outcome registers word immediate ⌝ }
+    ensures { result ≡ outcome registers word immediate }
 {
     let mut lent = Registers { words: registers };
     let answer = run_instruction(&mut lent, word, immediate);

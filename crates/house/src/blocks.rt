@@ -9,7 +9,7 @@ ghost use Rattle.house.specs.Payload.{effect_payload, rendering_payload};
 ghost use Rattle.house.specs.Write.{most_samples, rendering_bytes};
 ghost use Rattle.house.specs.WriteLaws.{Small};
 
-use crate::{Contents, gather, payload, words};
+use crate::{Contents, gather, payload, word_bytes};
 
 // The wrapping sum of a block's payload.
 fn payload_sum(payload: [u32; 124]) -> u32
@@ -31,7 +31,7 @@ fn put_words(bytes: &mut [u8], at: usize, words: &[u32])
 {
     let mut i: usize = 0;
     while i < words.len() {
-        words::put(bytes, at + 4 * i, words[i]);
+        word_bytes::put(bytes, at + 4 * i, words[i]);
         i += 1;
     }
 }
@@ -61,11 +61,11 @@ pub fn put_block(
 {
     let head = std::num::wrapping_add_u32(std::num::wrapping_add_u32(kind, number), used);
     let sum = std::num::wrapping_add_u32(head, payload_sum(payload));
-    words::put(bytes, at, kind);
-    words::put(bytes, at + 4, number);
-    words::put(bytes, at + 8, used);
+    word_bytes::put(bytes, at, kind);
+    word_bytes::put(bytes, at + 4, number);
+    word_bytes::put(bytes, at + 8, used);
     put_payload(bytes, at + 12, payload, used);
-    words::put(bytes, at + 508, 0xffff_ffff - sum);
+    word_bytes::put(bytes, at + 508, 0xffff_ffff - sum);
 }
 
 // How many blocks a payload of `count` words needs.

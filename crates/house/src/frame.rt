@@ -5,7 +5,7 @@ ghost use Rattle.answers.specs.Numbers.{answer_of};
 ghost use Rattle.house.specs.Bytes.{wrapping_sum};
 ghost use Rattle.house.specs.Frame.{block_word, wrong_kind, wrong_used, rest_not_zero, bad_frame, block_answer, frame_answer};
 
-use crate::words;
+use crate::word_bytes;
 use answers::{Refusal, Verdict};
 
 // Word `place` of the block `number`.
@@ -13,7 +13,7 @@ pub fn block_word(bytes: &[u8], number: usize, place: usize) -> u32
     requires { 512 * number + 4 * place + 4 ≤ length bytes.now }
     ensures { result ≡ block_word bytes.now number place }
 {
-    words::word(bytes, 512 * number + 4 * place)
+    word_bytes::word(bytes, 512 * number + 4 * place)
 }
 
 // The wrapping sum of a block's 128 words.

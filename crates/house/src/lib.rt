@@ -6,7 +6,7 @@ mod effect;
 pub mod frame;
 mod gather;
 pub mod payload;
-mod words;
+mod word_bytes;
 
 ghost use Rattle.std.specs.Prelude.{◌≡◌, ◌+◌};
 ghost use Rattle.house.specs.Payload.{contents_end, kind_of, engine_of};

@@ -6,7 +6,7 @@ ghost use Rattle.tables.specs.Zeros.{copied};
 ghost use Rattle.house.specs.Bytes.{words_from};
 ghost use Rattle.house.specs.Frame.{payload_word, payload_length, section};
 
-use crate::{frame, words};
+use crate::{frame, word_bytes};
 
 // The smaller of two numbers.
 pub fn least(a: usize, b: usize) -> usize
@@ -43,7 +43,7 @@ fn copy_words(bytes: &[u8], at: usize, table: &mut [u32], to: usize, count: usiz
 {
     let mut i: usize = 0;
     while i < count {
-        table[to + i] = words::word(bytes, at + 4 * i);
+        table[to + i] = word_bytes::word(bytes, at + 4 * i);
         i += 1;
     }
 }

@@ -41,19 +41,19 @@ program lengths instructions = record { lengths = lengths; instructions = instru
 abbrev pub register : List ℕ → ℕ → ℕ
 register registers r = get_or registers r 0
 
-abbrev pub result : List ℕ → Instruction → ℕ
-result r (Immediate dst value) = value
-result r (Add dst lhs rhs) = added (register r lhs) (register r rhs)
-result r (Sub dst lhs rhs) = subtracted (register r lhs) (register r rhs)
-result r (Mul dst lhs rhs) = multiplied (register r lhs) (register r rhs)
-result r (Min dst lhs rhs) = lesser (register r lhs) (register r rhs)
-result r (Max dst lhs rhs) = greater (register r lhs) (register r rhs)
-result r (Neg dst src) = negated (register r src)
-result r (Abs dst src) = absolute (register r src)
-result r (IntegerSub dst lhs rhs) = wrapping_difference (register r lhs) (register r rhs)
+abbrev pub result_of : List ℕ → Instruction → ℕ
+result_of r (Immediate dst value) = value
+result_of r (Add dst lhs rhs) = added (register r lhs) (register r rhs)
+result_of r (Sub dst lhs rhs) = subtracted (register r lhs) (register r rhs)
+result_of r (Mul dst lhs rhs) = multiplied (register r lhs) (register r rhs)
+result_of r (Min dst lhs rhs) = lesser (register r lhs) (register r rhs)
+result_of r (Max dst lhs rhs) = greater (register r lhs) (register r rhs)
+result_of r (Neg dst src) = negated (register r src)
+result_of r (Abs dst src) = absolute (register r src)
+result_of r (IntegerSub dst lhs rhs) = wrapping_difference (register r lhs) (register r rhs)
 
 unfoldable pub execute : List ℕ → Instruction → List ℕ
-execute registers i = set registers (destination i) (result registers i)
+execute registers i = set registers (destination i) (result_of registers i)
 
 -- words that are no instruction never run (answer 15)
 abbrev pub execute_words : List ℕ → InstructionWords → List ℕ

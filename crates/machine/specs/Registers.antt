@@ -18,9 +18,9 @@ set_past [] k v h = refl
 set_past (x ∷ xs) zero v h = absurd (not-suc-le-zero h)
 set_past (x ∷ xs) (suc k) v h = ap (λ (t : List ℕ). x ∷ t) (set_past xs k v (le_of_suc-le-suc h))
 
-pub upTo_start : (l : List ℕ) (d v : ℕ) → l ≡ up_to l d v 0
+pub up_to_start : (l : List ℕ) (d v : ℕ) → l ≡ up_to l d v 0
 unfolding up_to
-upTo_start l d v = simp (le-ltb d 0 (omega arith))
+up_to_start l d v = simp (le-ltb d 0 (omega arith))
 
 -- the place k is set to v where it is the one, else to what it holds
 next : (l : List ℕ) (d v k : ℕ) → set (up_to l d v k) k (cond (eqb k d) v (get_or (up_to l d v k) k 0)) ≡ up_to l d v (k + 1)
@@ -34,13 +34,13 @@ next l d v k = go (ltb d k) refl (eqb k d) refl
     go false p true q = let e = eqb-true k d q in simp (p, q, lt-ltb d (k + 1) (omega arith)) (ap (λ (t : ℕ). set l t v) e)
     go false p false q = let h = ltb-false d k p in let n = eqb-false k d q in simp (p, q, le-ltb d (k + 1) (omega arith), set_same)
 
-pub upTo_next : (l r : List ℕ) (d v k w : ℕ) → r ≡ up_to l d v k → w ≡ cond (eqb k d) v (get_or r k 0) → set r k w ≡ up_to l d v (k + 1)
-upTo_next l r d v k w e p = rw (p, e) (next l d v k)
+pub up_to_next : (l r : List ℕ) (d v k w : ℕ) → r ≡ up_to l d v k → w ≡ cond (eqb k d) v (get_or r k 0) → set r k w ≡ up_to l d v (k + 1)
+up_to_next l r d v k w e p = rw (p, e) (next l d v k)
 
 -- a place past the registers is none of them
-pub upTo_end : (l : List ℕ) (d v : ℕ) → up_to l d v (length l) ≡ set l d v
+pub up_to_end : (l : List ℕ) (d v : ℕ) → up_to l d v (length l) ≡ set l d v
 unfolding up_to
-upTo_end l d v = go (dec_lt d (length l))
+up_to_end l d v = go (dec_lt d (length l))
   where
     go : Dec (d < length l) → cond (ltb d (length l)) (set l d v) l ≡ set l d v
     go (yes h) = rw (lt-ltb d (length l) h)

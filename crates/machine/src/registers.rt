@@ -2,12 +2,12 @@
 ghost use Rattle.std.specs.Prelude.{◌≡◌, true, cond, ◌+◌, ◌*◌, ◌<◌, length, set};
 ghost use Rattle.kernel.specs.Instructions.{destination, instruction_at};
 ghost use Rattle.kernel.specs.Lists.{is_formed};
-ghost use Rattle.machine.specs.Machine.{register, result, execute, execute_words};
+ghost use Rattle.machine.specs.Machine.{register, result_of, execute, execute_words};
 
 use kernel::Instruction;
 
 fn pick(at: bool, value: u32, old: u32) -> u32
-    ensures* { λ r. ⌜ r ≡ cond at value old ⌝ }
+    ensures { result ≡ cond at value old }
 {
     if at {
         return value;
@@ -17,7 +17,7 @@ fn pick(at: bool, value: u32, old: u32) -> u32
 
 // One register set. A choice at each of the sixteen places keeps the array in vector registers: a store to one place and a copy of the array stall.
 pub fn put(registers: [u32; 16], at: u32, value: u32) -> [u32; 16]
-    ensures* { λ r. ⌜ r ≡ set registers at value ⌝ }
+    ensures { result ≡ set registers at value }
 {
     let mut r = registers;
     let place = at as usize;
@@ -29,7 +29,7 @@ pub fn put(registers: [u32; 16], at: u32, value: u32) -> [u32; 16]
 
 // One register read. Where the number is below 16 by its making the compiler drops the test.
 pub fn read(registers: [u32; 16], at: u32) -> u32
-    ensures* { λ r. ⌜ r ≡ register registers at ⌝ }
+    ensures { result ≡ register registers at }
 {
     let place = at as usize;
     if place < 16 {
@@ -46,7 +46,8 @@ struct Operands {
 
 // Two registers read from one copy of the array: the compiler puts it where an index can reach it once instead of twice.
 fn read_both(registers: [u32; 16], lhs: u32, rhs: u32) -> Operands
-    ensures* { λ r. ⌜ (r.lhs ≡ register registers lhs) × (r.rhs ≡ register registers rhs) ⌝ }
+    ensures lhs { result.lhs ≡ register registers lhs }
+    ensures rhs { result.rhs ≡ register registers rhs }
 {
     let left = lhs as usize;
     let right = rhs as usize;
@@ -67,7 +68,7 @@ fn read_both(registers: [u32; 16], lhs: u32, rhs: u32) -> Operands
 }
 
 fn result(registers: [u32; 16], instruction: Instruction) -> u32
-    ensures* { λ r. ⌜ r ≡ result registers instruction ⌝ }
+    ensures { result ≡ result_of registers instruction }
 {
     match instruction {
         Instruction::Immediate { dst: _, value } => value,
@@ -101,7 +102,7 @@ fn result(registers: [u32; 16], instruction: Instruction) -> u32
 }
 
 fn destination(instruction: Instruction) -> u32
-    ensures* { λ r. ⌜ r ≡ destination instruction ⌝ }
+    ensures { result ≡ destination instruction }
 {
     match instruction {
         Instruction::Immediate { dst, value: _ } => dst,
@@ -142,7 +143,7 @@ fn destination(instruction: Instruction) -> u32
 
 // The registers after an instruction.
 pub fn execute(registers: [u32; 16], instruction: Instruction) -> [u32; 16]
-    ensures* { λ r. ⌜ r ≡ execute registers instruction ⌝ }
+    ensures { result ≡ execute registers instruction }
 {
     let value = result(registers, instruction);
     put(registers, destination(instruction), value)
@@ -151,7 +152,7 @@ pub fn execute(registers: [u32; 16], instruction: Instruction) -> [u32; 16]
 // The registers after an instruction of a table, whose words are one.
 pub fn compute(registers: [u32; 16], instructions: &[u32], instruction: u32) -> [u32; 16]
     requires { (2 * instruction + 1 < length instructions.now) × (is_formed (instruction_at instructions.now instruction) ≡ true) }
-    ensures* { λ r. ⌜ r ≡ execute_words registers (instruction_at instructions.now instruction) ⌝ }
+    ensures { result ≡ execute_words registers (instruction_at instructions.now instruction) }
 {
     let at = 2 * (instruction as usize);
     let named = kernel::instructions::instruction_of_words(instructions[at], instructions[at + 1]);

@@ -15,7 +15,7 @@ use Rattle.plan.specs.Nodes.{Node, Flow, updates_of, roots}
 use Rattle.plan.specs.Flow.{flow_of}
 use Rattle.plan.specs.Hoist.{invariants, mark_all, sweep, needed_by, homes_of, number, control_computations}
 use Rattle.plan.specs.Schedule.{Task, control_tasks, plan_of}
-use Rattle.plan.specs.Reached.{length_markAll, length_sweep}
+use Rattle.plan.specs.Reached.{length_mark_all, length_sweep}
 use Rattle.plan.specs.OriginLaws.{number_length}
 use Rattle.plan.specs.Layout.{Lent, Updates, task_word, needed_at, slots_at, reached_at, tasks_at}
 use Rattle.plan.specs.Regions.{written, written_length, written_again, Region, region_written, region_kept, region_own, flags, flags_length}
@@ -117,7 +117,7 @@ module _ (sizes : Sizes) (nodes updates stores : List ℕ) (output : ℕ) (t0 t1
   inv_long = invariant_length nodes n
 
   marks_long : length marks ≡ n
-  marks_long = length_markAll list (replicate n false) ∙ length-replicate n false
+  marks_long = length_mark_all list (replicate n false) ∙ length-replicate n false
 
   need_long : length need ≡ n
   need_long = length_sweep ns (goes_down false ns inv) n marks ∙ marks_long

@@ -14,7 +14,7 @@ use Rattle.plan.specs.Nodes.{Node, operands, node_at_lem}
 use Rattle.plan.specs.Flow.{node_in}
 use Rattle.plan.specs.Hoist.{invariant_node, invariants, hoistable, mark_all, sweep}
 use Rattle.plan.specs.TestLaws.{or_first, or_second}
-use Rattle.plan.specs.Reached.{length_markAll}
+use Rattle.plan.specs.Reached.{length_mark_all}
 use Rattle.plan.specs.Layout.{Lent}
 use Rattle.plan.specs.Regions.{written, written_none, written_in, written_out, written_push, written_set, Region, region_at, region_own, flag, flags, flags_length, flags_at, flags_set, flags_append}
 use Rattle.plan.specs.Words.{nodes_to, nodes_length, nodes_next, node_at_lem, operand_count, operand_list, operands_in, computed_in, invariant_word, hoistable_in, marked, descends_in, goes_down, swept_node, operands_in_lem, computed_in_lem, operands_before, invariant_in}
@@ -195,7 +195,7 @@ sweep_next sizes nodes base through table now next i j lent e below apart near i
     let list : List ℕ = cond (get_or s.seen i false && down i) (operands (node_at_lem (nodes_to nodes sizes.nodes) i)) [] in
     record {
       seen = mark_all list s.seen;
-      long = length_markAll list s.seen ∙ s.long;
+      long = length_mark_all list s.seen ∙ s.long;
       held =
           q ∙ swept_node_lem sizes nodes (length table) lent base through s.seen invariant table now i (omega arith) apart (s.long ∙ long) same (omega (arith, lent.room)) other s.held;
       left = rw e at s.left;

@@ -25,7 +25,7 @@ use Rattle.plan.specs.Words.{nodes_to, nodes_length, node_at_lem}
 use Rattle.plan.specs.Regions.{Region, region_at, flags, flags_length, flags_at}
 use Rattle.plan.specs.Hoist.{hoistable, mark_all, needed_by, homes_of}
 use Rattle.plan.specs.Flow.{node_in, flow_of}
-use Rattle.plan.specs.Reached.{length_markAll, length_sweep}
+use Rattle.plan.specs.Reached.{length_mark_all, length_sweep}
 use Rattle.plan.specs.ControlLaws.{map_append, homes_to, homes_to_length}
 use Rattle.plan.specs.SampleLaws.{sample_in_lem, sample_in_lem}
 use Rattle.plan.specs.Chains.{Canonicals, Reading, Chained, last_node, after_in, chain_writes, writes_after, tasks_after, tasks_to, sample_words}
@@ -170,7 +170,7 @@ module _ (sizes : Sizes) (nodes updates stores : List ℕ) (output : ℕ) (table
   needed_long =
       flags_length (needed_of flow)
       ∙ (length_sweep ns (λ m. not (hoistable ns (invariant_of flow) m)) (length ns) (mark_all (roots flow) (replicate (length ns) false))
-      ∙ (length_markAll (roots flow) (replicate (length ns) false) ∙ (length-replicate (length ns) false ∙ nodes_length nodes n)))
+      ∙ (length_mark_all (roots flow) (replicate (length ns) false) ∙ (length-replicate (length ns) false ∙ nodes_length nodes n)))
 
   slots_long : length (plan_of flow).slots ≡ n
   unfolding plan_of flow_of homes_of

@@ -112,16 +112,16 @@ last_or p q k (x ∷ xs) =
 
 -- ---- the tables hold last ordinals
 
-orElse_assoc : (a c d : ℕ) → or_else (or_else a c) d ≡ or_else a (or_else c d)
-orElse_assoc zero c d = refl
-orElse_assoc (suc a) c d = refl
+or_else_assoc : (a c d : ℕ) → or_else (or_else a c) d ≡ or_else a (or_else c d)
+or_else_assoc zero c d = refl
+or_else_assoc (suc a) c d = refl
 
 position_is : (v k : ℕ) (comps t : List ℕ) → v < length t → get_or (positions k comps t) v 0 ≡ or_else (last_at (λ n. eqb n v) k comps) (get_or t v 0)
 position_is v k [] t h = refl
 position_is v k (n ∷ comps) t h =
     position_is v (suc k) comps (set t n (suc k)) (rw length-set h)
     ∙ (ap (or_else (last_at (λ n. eqb n v) (suc k) comps)) (go (ℕ_discrete v n)) ∙ sym
-    (orElse_assoc (last_at (λ n. eqb n v) (suc k) comps) (cond (eqb n v) (suc k) 0) (get_or t v 0)))
+    (or_else_assoc (last_at (λ n. eqb n v) (suc k) comps) (cond (eqb n v) (suc k) 0) (get_or t v 0)))
   where
     go : Dec (v ≡ n) → get_or (set t n (suc k)) v 0 ≡ or_else (cond (eqb n v) (suc k) 0) (get_or t v 0)
     go (yes z) =
@@ -158,7 +158,7 @@ module _ (ns : List Node) where
       let p : ℕ → Bool = λ n. member v (operands (node_at ns n)) in
       read_is v (suc k) comps (set_each (operands (node_at ns n)) (suc k) t) (rw (set_each_length (operands (node_at ns n)) (suc k) t) h)
       ∙ (ap (or_else (last_at p (suc k) comps)) (set_each_at (operands (node_at ns n)) k t v h) ∙ sym
-      (orElse_assoc (last_at p (suc k) comps) (cond (p n) (suc k) 0) (get_or t v 0)))
+      (or_else_assoc (last_at p (suc k) comps) (cond (p n) (suc k) 0) (get_or t v 0)))
 
 -- ---- the ordinal after which a write comes is that of the last computation for which it waits
 

@@ -15,7 +15,7 @@ use Rattle.plan.specs.Origins.{control_origin}
 use Rattle.plan.specs.Schedule.{writes_from, writes, control_tasks, plan_of}
 use Rattle.plan.specs.TestLaws.{or_first, or_second}
 use Rattle.plan.specs.ListLaws.{filter_member, count_up_below, flag_inside, count_up_member, member_filter, member_append, none_seen}
-use Rattle.plan.specs.Reached.{mark_in, mark_inv, length_markAll}
+use Rattle.plan.specs.Reached.{mark_in, mark_inv, length_mark_all}
 use Rattle.plan.specs.Planned.{GoodFlow, AllWrites, all_append, homes_length, inv, homes, slots, ss, cneed, comps}
 use Rattle.plan.specs.OriginLaws.{sample_length}
 use Rattle.plan.specs.RustPlan.{reachable, ordinal_schedule, plan_from, plan_rust}
@@ -51,7 +51,7 @@ module _ (g : Flow) (v : GoodFlow g) where
   marked : mark_all control_roots (replicate (length g.nodes) false) ≡ homes g v
   marked =
       same_list g.nodes (λ n. true) v.ordered (mark_all control_roots (replicate (length g.nodes) false)) (homes g v)
-      (length_markAll control_roots (replicate (length g.nodes) false) ∙ (length-replicate (length g.nodes) false ∙ sym (homes_length g v)))
+      (length_mark_all control_roots (replicate (length g.nodes) false) ∙ (length-replicate (length g.nodes) false ∙ sym (homes_length g v)))
       (λ n t. from n (mark_inv control_roots (replicate (length g.nodes) false) n t))
       (λ n t.
       let l : n < length g.nodes = omega (arith, flag_inside (homes g v) n t, homes_length g v) in

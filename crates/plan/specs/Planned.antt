@@ -13,7 +13,7 @@ use Rattle.plan.specs.Lists.{member, filter, count_up}
 use Rattle.plan.specs.Hoist.{number, hoistable, needed_by, homes_of, control_computations, invariants, mark_all, sweep}
 use Rattle.plan.specs.ListLaws.{Ascending, ascending_filter, filter_member, count_up_below, member_filter, count_up_member, count_up_length, flag_inside, map_at, member_left, member_right}
 use Rattle.plan.specs.TestLaws.{or_first, or_second, and_first, and_second, and_both, not_pass}
-use Rattle.plan.specs.Reached.{Ordered, mark_in, length_markAll, length_sweep, sweep_mono, sweep_all, sweep_closed, inv_closed, inv_leaf}
+use Rattle.plan.specs.Reached.{Ordered, mark_in, length_mark_all, length_sweep, sweep_mono, sweep_all, sweep_closed, inv_closed, inv_leaf}
 use Rattle.plan.specs.OriginLaws.{number_some, sample_at, sample_length, sample_none, control_at, control_computed, control_leaf, no_origin_lem}
 
 -- what the plan asks of a flow: operands stand before their node; the output and every update are nodes
@@ -74,7 +74,7 @@ module _ (b : Flow) (v : GoodFlow b) where
   unfolding needed_by
   need_length =
       length_sweep ns _ (length ns) (mark_all (roots b) (replicate (length ns) false))
-      ∙ (length_markAll (roots b) (replicate (length ns) false) ∙ length-replicate (length ns) false)
+      ∙ (length_mark_all (roots b) (replicate (length ns) false) ∙ length-replicate (length ns) false)
 
   -- a root is needed
   pub need_root : (n : ℕ) → T (member n (roots b)) → n < length ns → T (get_or need n false)
@@ -88,7 +88,7 @@ module _ (b : Flow) (v : GoodFlow b) where
   unfolding needed_by
   need_closed n a h t d u =
       sweep_closed ns (λ n. not (hoistable ns inv n)) v.ordered (length ns) (mark_all (roots b) (replicate (length ns) false))
-      (rw (length_markAll, length-replicate) (omega arith)) n a h t d u
+      (rw (length_mark_all, length-replicate) (omega arith)) n a h t d u
 
   -- what gets a control slot is needed and hoistable
   pub homes_at : (n : ℕ) → n < length ns → get_or homes n false ≡ (get_or need n false && hoistable ns inv n)

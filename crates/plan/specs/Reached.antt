@@ -18,9 +18,9 @@ use Rattle.plan.specs.TestLaws.{or_first, or_second, and_first, and_second, and_
 -- ---- marks
 
 -- marking keeps the number of flags
-pub length_markAll : (l : List ℕ) (m : List Bool) → length (mark_all l m) ≡ length m
-length_markAll [] m = refl
-length_markAll (n ∷ ns) m = length_markAll ns (set m n true) ∙ length-set m n true
+pub length_mark_all : (l : List ℕ) (m : List Bool) → length (mark_all l m) ≡ length m
+length_mark_all [] m = refl
+length_mark_all (n ∷ ns) m = length_mark_all ns (set m n true) ∙ length-set m n true
 
 -- a mark stays marked
 pub set_mark : (m : List Bool) (n j : ℕ) → T (get_or m j false) → T (get_or (set m n true) j false)
@@ -72,7 +72,7 @@ module _ (ns : List Node) (down : ℕ → Bool) where
   pub length_sweep : (k : ℕ) (m : List Bool) → length (sweep ns down k m) ≡ length m
   unfolding sweep
   length_sweep zero m = refl
-  length_sweep (suc k) m = length_sweep k (stepm k m) ∙ length_markAll (cond (get_or m k false && down k) (operands (node_at ns k)) []) m
+  length_sweep (suc k) m = length_sweep k (stepm k m) ∙ length_mark_all (cond (get_or m k false && down k) (operands (node_at ns k)) []) m
 
   -- .. and every mark
   pub sweep_mono : (k : ℕ) (m : List Bool) (j : ℕ) → T (get_or m j false) → T (get_or (sweep ns down k m) j false)
@@ -115,7 +115,7 @@ module _ (ns : List Node) (down : ℕ → Bool) where
         → T (get_or (sweep ns down k m) a false)
     unfolding sweep
     sweep_closed zero m l n a h t d u = absurd (omega arith)
-    sweep_closed (suc k) m l n a h t d u = go (ℕ_discrete n k) (λ h'. sweep_closed k (stepm k m) (rw length_markAll (omega arith)) n a h' t d u)
+    sweep_closed (suc k) m l n a h t d u = go (ℕ_discrete n k) (λ h'. sweep_closed k (stepm k m) (rw length_mark_all (omega arith)) n a h' t d u)
       where
         L : List ℕ
         L = cond (get_or m k false && down k) (operands (node_at ns k)) []

@@ -14,7 +14,7 @@ use Rattle.plan.specs.Flow.{flow_of}
 use Rattle.plan.specs.Origins.{Origin, has_origin, canonical}
 use Rattle.plan.specs.Hoist.{hoistable, mark_all, needed_by, homes_of}
 use Rattle.plan.specs.Schedule.{plan_of}
-use Rattle.plan.specs.Reached.{length_markAll, length_sweep}
+use Rattle.plan.specs.Reached.{length_mark_all, length_sweep}
 use Rattle.plan.specs.OriginLaws.{number_inj, number_length, sample_length}
 use Rattle.plan.specs.Layout.{Lent, Updates, task_word, needed_at, slots_at, canonical_at, fresh_at, last_at, tasks_at, homes_at, heads_at}
 use Rattle.plan.specs.Regions.{written, written_length, written_out, Region, region_written, flags, flags_length}
@@ -84,7 +84,7 @@ module _ (sizes : Sizes) (nodes updates stores : List ℕ) (output : ℕ) (t0 : 
   needed_long =
       flags_length (needed_of flow)
       ∙ (length_sweep ns (λ m. not (hoistable ns (invariant_of flow) m)) (length ns) (mark_all (roots flow) (replicate (length ns) false))
-      ∙ (length_markAll (roots flow) (replicate (length ns) false) ∙ (length-replicate (length ns) false ∙ nodes_length nodes n)))
+      ∙ (length_mark_all (roots flow) (replicate (length ns) false) ∙ (length-replicate (length ns) false ∙ nodes_length nodes n)))
 
   slots_long : length (plan_of flow).slots ≡ n
   unfolding plan_of flow_of homes_of

@@ -11,7 +11,7 @@ use Rattle.plan.specs.Hoist.{mark_all, sweep}
 use Rattle.plan.specs.RustPlan.{backwards, turns, reachable}
 use Rattle.plan.specs.TestLaws.{or_first, or_second}
 use Rattle.plan.specs.ListLaws.{flag_inside, member_append, member_left, member_right, none_seen}
-use Rattle.plan.specs.Reached.{set_mark, two_operands, Ordered, mark_in, mark_inv, length_markAll, length_sweep, sweep_mono, sweep_all, sweep_closed}
+use Rattle.plan.specs.Reached.{set_mark, two_operands, Ordered, mark_in, mark_inv, length_mark_all, length_sweep, sweep_mono, sweep_all, sweep_closed}
 
 -- ---- lists
 
@@ -258,7 +258,7 @@ module _ (ns : List Node) (down : ℕ → Bool) (ord : Ordered ns) where
       R = reachable ns rs down
 
       len₀ : length m₀ ≡ length ns
-      len₀ = length_markAll rs (replicate (length ns) false) ∙ length-replicate (length ns) false
+      len₀ = length_mark_all rs (replicate (length ns) false) ∙ length-replicate (length ns) false
 
       loops : Left (replicate (length ns) false) (backwards rs) R
       loops =

@@ -253,9 +253,9 @@ pub absolute_word : (word : ℕ) → Word (absolute word)
 unfolding absolute
 absolute_word word = omega arith
 
-pub wrappingDifference_word : (lhs rhs : ℕ) → Word (wrapping_difference lhs rhs)
+pub wrapping_difference_word : (lhs rhs : ℕ) → Word (wrapping_difference lhs rhs)
 unfolding wrapping_difference
-wrappingDifference_word lhs rhs = omega arith
+wrapping_difference_word lhs rhs = omega arith
 
 pub operate_word : (code lhs rhs : ℕ) → Word lhs → Word rhs → Word (operate code lhs rhs)
 unfolding operate
@@ -265,6 +265,6 @@ operate_word code lhs rhs p q =
     (either (code == 7) (multiplied_word lhs rhs)
     (either (code == 8) (lesser_word lhs rhs p q)
     (either (code == 9) (greater_word lhs rhs p q)
-    (either (code == 10) (wrappingDifference_word lhs rhs)
+    (either (code == 10) (wrapping_difference_word lhs rhs)
     (either (code == 12) (negated_word lhs p)
     (either (code == 13) (absolute_word lhs) (omega arith))))))))

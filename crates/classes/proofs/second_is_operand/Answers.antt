@@ -1,0 +1,10 @@
+-- `classes::second_is_operand` meets its contract. Assumes nothing.
+use borrow.Author.Tests.{lt-leb, le-leb}
+use Rattle.classes.specs.ClassLaws.{second_operand}
+use Rattle.classes.proofs.second_is_operand.Goals as goal
+
+pub returns-then-code-lt5 : goal.returns-then-code-lt5
+returns-then-code-lt5 c = rw (second_operand, lt-leb _ _ c.if-code-lt5.true)
+
+pub returns : goal.returns
+returns c = rw (second_operand, le-leb _ _ c.if-code-lt5.false)

@@ -1,0 +1,8 @@
+-- `mul_add`: three nodes, each right behind the one before. Assumes nothing.
+use borrow.Author.Rules.{rules}
+use native.Mathlib.Omega.{arith}
+use Rattle.expand.specs.Writes.{join}
+use Rattle.expand.proofs.macros.mul_add.Goals as goal
+
+pub returns : goal.returns
+returns c = join _ _ _ _ (join _ _ _ _ c.put.ensures c.put-2.ensures (omega arith)) c.put-3.ensures (omega arith)

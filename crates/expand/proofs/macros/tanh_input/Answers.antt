@@ -1,0 +1,8 @@
+-- `tanh_input`: six nodes, each right behind the one before. Assumes nothing.
+use borrow.Author.Rules.{rules}
+use native.Mathlib.Omega.{arith}
+use Rattle.expand.specs.Writes.{join}
+use Rattle.expand.proofs.macros.tanh_input.Goals as goal
+
+pub returns : goal.returns
+returns c = join _ _ _ _ (join _ _ _ _ (join _ _ _ _ (join _ _ _ _ (join _ _ _ _ c.put.ensures c.put-2.ensures (omega arith)) c.put-3.ensures (omega arith)) c.put-4.ensures (omega arith)) c.put-5.ensures (omega arith)) c.put-6.ensures (omega arith)

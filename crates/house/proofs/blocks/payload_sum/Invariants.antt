@@ -1,0 +1,11 @@
+use Rattle.std.proofs.Common.{◌≡◌, ◌-◌, ◌≤◌, length, take, refl, ◌∙◌, arith, rules}
+use lib.Seq.{take-length}
+use Rattle.house.specs.Bytes.{wrapping_sum}
+use Rattle.house.specs.BytesLaws.{sum_start, sum_next}
+use Rattle.house.proofs.blocks.payload_sum.Given as goal
+
+abbrev pub invariant-loop-i : goal.invariant-loop-i
+invariant-loop-i l = (l.i ≤ 124) × ((length l.payload ≡ 124) × (l.sum ≡ wrapping_sum (take l.i l.payload)))
+
+abbrev pub decreases-loop-i : goal.decreases-loop-i
+decreases-loop-i l = 124 - l.i

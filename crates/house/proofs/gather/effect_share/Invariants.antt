@@ -1,0 +1,11 @@
+use Rattle.std.proofs.Common.{◌≡◌, ◌-◌, ◌≤◌, length, refl, ap, ◌∙◌, arith, rules}
+use Rattle.tables.specs.Lists.{list_of, filled, filled_start, filled_next, filled_last}
+use Rattle.house.specs.File.{share_word}
+use Rattle.house.specs.Payload.{effect_payload}
+use Rattle.house.proofs.gather.effect_share.Given as goal
+
+abbrev pub invariant-loop-i : goal.invariant-loop-i
+invariant-loop-i l = (l.i ≤ 124) × ((length l.initial.words ≡ 124) × (l.words ≡ filled (share_word (effect_payload l.contents l.parameters l.states l.delays l.nodes) l.from) l.i l.initial.words))
+
+abbrev pub decreases-loop-i : goal.decreases-loop-i
+decreases-loop-i l = 124 - l.i

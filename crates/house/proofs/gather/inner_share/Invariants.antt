@@ -1,0 +1,10 @@
+use Rattle.std.proofs.Common.{◌≡◌, ◌-◌, ◌≤◌, length, refl, ap, ◌∙◌, arith, rules}
+use Rattle.tables.specs.Lists.{list_of, filled, filled_start, filled_next, filled_last}
+use Rattle.house.specs.File.{share_word}
+use Rattle.house.proofs.gather.inner_share.Given as goal
+
+abbrev pub invariant-loop-i : goal.invariant-loop-i
+invariant-loop-i l = (l.i ≤ 124) × ((length l.initial.words ≡ 124) × (l.words ≡ filled (share_word l.samples l.from) l.i l.initial.words))
+
+abbrev pub decreases-loop-i : goal.decreases-loop-i
+decreases-loop-i l = 124 - l.i

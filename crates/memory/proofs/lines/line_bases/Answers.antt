@@ -1,0 +1,26 @@
+-- `line_bases`: before turn i the base is the sum of the lengths before line i, and the first i words are the bases. Assumes nothing.
+use mathlib.Core.Path.{◌≡◌, sym}
+use Prim.Native.Nat.{◌-◌, ◌≤◌}
+use native.Mathlib.Omega.{arith}
+use Rattle.tables.specs.Loops.{sum, sum_start, sum_turn}
+use Rattle.block.specs.Block.{delay_length}
+use Rattle.memory.specs.Lines.{line_base}
+use Rattle.memory.specs.Fit.{line_lengths}
+use Rattle.tables.specs.Lists.{filled, filled_start}
+use Rattle.memory.specs.LineLaws.{bases_room, bases_next, bases_end}
+use borrow.Author.Rules.{rules}
+use Rattle.memory.proofs.lines.line_bases.Goals as goal
+
+pub loop-i-init : goal.loop-i-init
+loop-i-init c = (omega arith, sym (sum_start _), filled_start _ _)
+
+pub overflow_add-base : goal.overflow_add-base
+overflow_add-base c = omega (arith, bases_room _ c.requires c.loop-i.i c.loop-i-test.true)
+
+pub loop-i-preserved : goal.loop-i-preserved
+loop-i-preserved c =
+    let l = c.loop-i-test.true in
+    (omega arith, sum_turn _ _ _ c.loop-i.invariant.1, bases_next _ c.requires _ l _ _ c.loop-i.invariant.1 c.loop-i.invariant.2)
+
+pub returns : goal.returns
+returns c = bases_end _ _ c.loop-i.i (omega arith) c.loop-i.invariant.2

@@ -1,0 +1,20 @@
+use mathlib.Core.Path.{◌≡◌, sym}
+use mathlib.Core.Bool.{true}
+use mathlib.Core.List.{List}
+use Prim.Native.Nat.{ℕ, ◌-◌, ◌≤◌}
+use lib.ListN.{get_or}
+use native.Mathlib.Omega.{arith}
+use borrow.Author.Tests.{lt-ltb, le-ltb}
+use Rattle.tables.specs.Loops.{every, every_start, every_next, every_stop, every_end}
+use Rattle.block.specs.declared.Header.{Header}
+use Rattle.block.specs.Block.{block, delay_length}
+use Rattle.memory.specs.Sizes.{cursor_below, cursors_below}
+use borrow.Author.Rules.{rules}
+use Rattle.memory.proofs.sizes.cursors_below.Given as goal
+
+abbrev pub invariant-loop-i : goal.invariant-loop-i
+invariant-loop-i l =
+    (l.i ≤ l.count) × ((header : Header) (parameters states nodes : List ℕ) → every (cursor_below (block header parameters states l.delays nodes) l.cursors) l.i ≡ true)
+
+abbrev pub decreases-loop-i : goal.decreases-loop-i
+decreases-loop-i l = l.count - l.i

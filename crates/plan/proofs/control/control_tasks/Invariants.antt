@@ -1,0 +1,13 @@
+use mathlib.Core.Path.{◌≡◌, refl}
+use Prim.Native.Nat.{◌-◌, ◌≤◌, ◌*◌}
+use native.Mathlib.Omega.{arith}
+use lib.ListN.{length}
+use Rattle.plan.specs.ControlLaws.{Controls, controls_start, control_most, controls_next, controls_end}
+use borrow.Author.Rules.{rules}
+use Rattle.plan.proofs.control.control_tasks.Given as goal
+
+abbrev pub invariant-loop-i : goal.invariant-loop-i
+invariant-loop-i l = (l.i ≤ l.count) × (length l.work ≡ length l.initial.work) × (l.tasks ≤ 2 * l.i) × Controls l.sizes l.nodes l.initial.work l.work l.tasks l.i
+
+abbrev pub decreases-loop-i : goal.decreases-loop-i
+decreases-loop-i l = l.count - l.i

@@ -1,0 +1,23 @@
+-- `number_slots`: before turn i the first i nodes have their slots. Assumes nothing.
+use mathlib.Core.Path.{◌≡◌, refl}
+use Prim.Native.Nat.{◌-◌, ◌≤◌}
+use native.Mathlib.Omega.{arith}
+use lib.ListN.{length}
+use Rattle.plan.specs.ControlLaws.{home_in, Numbers, numbers_start, numbers_few, numbers_next, numbers_end}
+use borrow.Author.Rules.{rules}
+use Rattle.plan.proofs.control.number_slots.Goals as goal
+
+pub loop-i-init : goal.loop-i-init
+loop-i-init c = (omega arith, refl, omega arith, numbers_start _ _ _)
+
+pub number_slot-slots-requires : goal.number_slot-slots-requires
+number_slot-slots-requires c = (rw c.loop-i.invariant.1 c.requires, c.loop-i-test.true, c.loop-i.invariant.2)
+
+pub loop-i-preserved : goal.loop-i-preserved
+loop-i-preserved c = (omega (arith, c.loop-i-test.true), omega (arith, c.loop-i.invariant.1), numbers_few (home_in c.args.sizes.nodes c.args.nodes.now c.loop-i.work c.loop-i.i) _ _ _ c.loop-i.invariant.2 c.number_slot-slots.ensures.0, numbers_next _ _ _ _ _ _ _ _ c.requires c.loop-i-test.true c.loop-i.invariant.3 c.number_slot-slots.ensures)
+
+pub shape_of-work : goal.shape_of-work
+shape_of-work c = c.loop-i.invariant.1
+
+pub returns : goal.returns
+returns c = numbers_end _ _ _ _ _ c.loop-i.i (omega (arith, c.loop-i.invariant.0, c.loop-i-test.false)) c.loop-i.invariant.3

@@ -1,0 +1,14 @@
+use mathlib.Core.Path.{◌≡◌, refl}
+use Prim.Native.Nat.{◌-◌, ◌≤◌}
+use native.Mathlib.Omega.{arith}
+use lib.ListN.{length, length-set}
+use Rattle.plan.specs.Regions.{written, flags}
+use Rattle.plan.specs.HoistLaws.{invariant_to, invariance_start, invariance_next}
+use borrow.Author.Rules.{rules}
+use Rattle.plan.proofs.hoist.invariance.Given as goal
+
+abbrev pub invariant-loop-i : goal.invariant-loop-i
+invariant-loop-i l = (l.i ≤ l.count) × (length l.work ≡ length l.initial.work) × (l.work ≡ written 0 (flags (invariant_to l.nodes l.i)) l.initial.work)
+
+abbrev pub decreases-loop-i : goal.decreases-loop-i
+decreases-loop-i l = l.count - l.i

@@ -1,0 +1,15 @@
+use mathlib.Core.Path.{◌≡◌, refl, sym, ◌∙◌}
+use Prim.Native.Nat.{◌-◌, ◌≤◌}
+use native.Mathlib.Omega.{arith}
+use lib.ListN.{length}
+use Rattle.tables.specs.Loops.{turns, turns_start, turns_next, turns_end}
+use Rattle.plan.specs.Chains.{last_node}
+use Rattle.plan.specs.LastLaws.{turns_kept}
+use borrow.Author.Rules.{rules}
+use Rattle.plan.proofs.schedule.last_reads.Given as goal
+
+abbrev pub invariant-loop-i : goal.invariant-loop-i
+invariant-loop-i l = (l.i ≤ l.count) × (length l.work ≡ length l.initial.work) × (l.work ≡ turns (last_node l.sizes.nodes l.nodes) l.initial.work l.i)
+
+abbrev pub decreases-loop-i : goal.decreases-loop-i
+decreases-loop-i l = l.count - l.i

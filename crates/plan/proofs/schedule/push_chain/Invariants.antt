@@ -1,0 +1,14 @@
+use mathlib.Core.Path.{◌≡◌, refl}
+use Prim.Native.Nat.{◌+◌, ◌≤◌}
+use native.Mathlib.Omega.{arith}
+use lib.ListN.{length, length-set}
+use Rattle.plan.specs.Chains.{Chained}
+use Rattle.plan.specs.ChainLaws.{Pushing, sizes_of, to_go, head_low, pushing_start, pushing_room, pushing_next, pushing_less, pushing_end}
+use borrow.Author.Rules.{rules}
+use Rattle.plan.proofs.schedule.push_chain.Given as goal
+
+abbrev pub invariant-loop-word : goal.invariant-loop-word
+invariant-loop-word l = (length l.work ≡ length l.initial.work) × (l.word ≤ l.states + l.delays) × (Chained (sizes_of l.count l.states l.delays) l.initial.work → l.place ≤ l.count → Pushing (sizes_of l.count l.states l.delays) l.initial.work l.work l.place l.tasks l.total l.word)
+
+abbrev pub decreases-loop-word : goal.decreases-loop-word
+decreases-loop-word l = to_go (l.states + l.delays) l.word
