@@ -15,7 +15,7 @@ use Rattle.block.specs.Validation.{Counts}
 use Rattle.expand.specs.Good.{good_operands}
 use Rattle.expand.specs.Graph.{Graph}
 use Rattle.expand.specs.GraphLaws.{GoodGraph}
-use Rattle.classes.specs.Classes.{first_place, is_operand, key_of, first_key_lem, second_key_lem, has_keys, class_from, classes_to, find}
+use Rattle.classes.specs.Classes.{first_place, is_operand, key_of, first_key, second_key, has_keys, class_from, classes_to, find}
 use Rattle.memory.specs.Lines.{Memories}
 use Rattle.memory.specs.Signals.{Given}
 use Rattle.graph_run.specs.Sample.{value_of, node_value, values_to, values}
@@ -57,14 +57,14 @@ first_says passes (suc n) j e = go (eqb (first_place passes n) 0) (passes n) ref
 -- node j has a code and two keys, where the nodes have these classes
 pub record Same (nodes classes : List ℕ) (c x y j : ℕ) : Type 0 where
   pub code : code nodes j ≡ c
-  pub left : first_key_lem nodes classes j ≡ x
-  pub right : second_key_lem nodes classes j ≡ y
+  pub left : first_key nodes classes j ≡ x
+  pub right : second_key nodes classes j ≡ y
 
 keys_say : (nodes classes : List ℕ) (c x y j : ℕ) → has_keys nodes classes c x y j ≡ true → Same nodes classes c x y j
 unfolding has_keys
 keys_say nodes classes c x y j e =
     let p = &_both (eqb (code nodes j) c) _ e in
-    let q = &_both (eqb (first_key_lem nodes classes j) x) _ p.1 in
+    let q = &_both (eqb (first_key nodes classes j) x) _ p.1 in
     record { code = eqb-true _ _ p.0; left = eqb-true _ _ q.0; right = eqb-true _ _ q.1 }
 
 -- a key goes by the class of an operand alone
@@ -110,12 +110,12 @@ module _ {n : Counts} {g : Graph} (good : GoodGraph n g) where
   class_built = built_same (classes_to g.nodes) (class_from g.nodes) refl (λ i. refl)
 
   -- the keys by the classes of the first nodes are the keys by all classes
-  first_key_lem : (i j : ℕ) → j ≤ i → j < g.count → first_key_lem g.nodes (classes_to g.nodes i) j ≡ first_key_lem g.nodes (classes_of g) j
-  unfolding first_key_lem
+  first_key_lem : (i j : ℕ) → j ≤ i → j < g.count → first_key g.nodes (classes_to g.nodes i) j ≡ first_key g.nodes (classes_of g) j
+  unfolding first_key
   first_key_lem i j h l = key_same (is_operand (code g.nodes j) 0) _ _ _ (λ t. let f = first_below j l t in class_built i g.count _ (omega arith) (omega arith))
 
-  second_key_lem : (i j : ℕ) → j ≤ i → j < g.count → second_key_lem g.nodes (classes_to g.nodes i) j ≡ second_key_lem g.nodes (classes_of g) j
-  unfolding second_key_lem
+  second_key_lem : (i j : ℕ) → j ≤ i → j < g.count → second_key g.nodes (classes_to g.nodes i) j ≡ second_key g.nodes (classes_of g) j
+  unfolding second_key
   second_key_lem i j h l = key_same (is_operand (code g.nodes j) 1) _ _ _ (λ t. let f = second_below j l t in class_built i g.count _ (omega arith) (omega arith))
 
   -- what is found has the code and the keys
@@ -125,7 +125,7 @@ module _ {n : Counts} {g : Graph} (good : GoodGraph n g) where
 
   -- a node's class has its code and its keys, and is no later node
   class_says : (i : ℕ) → i < g.count
-      → Same g.nodes (classes_of g) (code g.nodes i) (first_key_lem g.nodes (classes_of g) i) (second_key_lem g.nodes (classes_of g) i) (class_at g i) × (class_at g i ≤ i)
+      → Same g.nodes (classes_of g) (code g.nodes i) (first_key g.nodes (classes_of g) i) (second_key g.nodes (classes_of g) i) (class_at g i) × (class_at g i ≤ i)
   unfolding classes_to class_from
   class_says i l = rw (built_at (classes_to g.nodes) (class_from g.nodes) refl (λ k. refl) g.count i l) (own (found before) refl (eqb (found before) 0) refl)
     where
@@ -133,10 +133,10 @@ module _ {n : Counts} {g : Graph} (good : GoodGraph n g) where
       before = classes_to g.nodes i
 
       found : List ℕ → ℕ
-      found classes = first_place (has_keys g.nodes classes (code g.nodes i) (first_key_lem g.nodes classes i) (second_key_lem g.nodes classes i)) i
+      found classes = first_place (has_keys g.nodes classes (code g.nodes i) (first_key g.nodes classes i) (second_key g.nodes classes i)) i
 
       own : (r : ℕ) → found before ≡ r → (z : Bool) → eqb r 0 ≡ z
-          → Same g.nodes (classes_of g) (code g.nodes i) (first_key_lem g.nodes (classes_of g) i) (second_key_lem g.nodes (classes_of g) i) (cond z i (pred r)) × (cond z i (pred r) ≤ i)
+          → Same g.nodes (classes_of g) (code g.nodes i) (first_key g.nodes (classes_of g) i) (second_key g.nodes (classes_of g) i) (cond z i (pred r)) × (cond z i (pred r) ≤ i)
       own r e true p = (record { code = refl; left = refl; right = refl }, omega arith)
       own zero e false p = absurd (eqb-false 0 0 p refl)
       own (suc j) e false p =
@@ -167,8 +167,8 @@ module _ {n : Counts} {g : Graph} (good : GoodGraph n g) where
 
     -- .. and what its code and keys give, where the nodes before it have their classes' values
     value_keys : (i : ℕ) → i < g.count → ((j : ℕ) → j < i → value_at g x m j ≡ value_at g x m (class_at g j))
-        → value_at g x m i ≡ value_of g.delay_lengths x m (values g x m) (code g.nodes i) (first_key_lem g.nodes (classes_of g) i) (second_key_lem g.nodes (classes_of g) i)
-    unfolding first_key_lem second_key_lem
+        → value_at g x m i ≡ value_of g.delay_lengths x m (values g x m) (code g.nodes i) (first_key g.nodes (classes_of g) i) (second_key g.nodes (classes_of g) i)
+    unfolding first_key second_key
     value_keys i l before =
         let c = code g.nodes i in
         let left = first g.nodes i in

@@ -16,7 +16,7 @@ use Rattle.allocate.specs.Actions.{Action}
 use Rattle.allocate.specs.ActionWords.{operations_in, step_words, instruction_words}
 use Rattle.allocate.specs.State.{Setting, State}
 use Rattle.allocate.specs.Allocator.{distance, read_later, home_code}
-use Rattle.allocate.specs.Layout.{slot_at, canonical_at, next_at, holder_at, spilled_at, fresh_at_lem, freed_at, home_at}
+use Rattle.allocate.specs.Layout.{slot_at, canonical_at, next_at, holder_at, spilled_at, fresh_at, freed_at, home_at}
 use Rattle.allocate.specs.Registers.{usable_bit}
 use Rattle.allocate.specs.Desk.{Desk, supply_of}
 use Rattle.allocate.specs.Tasks.{canonical_of, home_of, target_of}
@@ -60,7 +60,7 @@ pub record Tables (frame : Frame) (work : List ℕ) (freed : ℕ) (next holder s
   pub nexts : part (next_at frame 0) frame.nodes work ≡ next
   pub holders : part (holder_at frame 0) frame.nodes work ≡ holder
   pub spilleds : part (spilled_at frame 0) frame.nodes work ≡ spilled
-  pub freshes : map is_some (part (fresh_at_lem frame 0) frame.nodes work) ≡ fresh
+  pub freshes : map is_some (part (fresh_at frame 0) frame.nodes work) ≡ fresh
   pub frees : part (freed_at frame 0) freed work ≡ stack free
   pub count : freed ≡ length free
 
@@ -151,11 +151,11 @@ module _ (frame : Frame) (work : List ℕ) (freed : ℕ) (next holder spilled : 
       sym (part_at (spilled_at frame 0) frame.nodes work n h ∙ ap (λ (i : ℕ). get_or work i 0) z) ∙ ap (λ (l : List ℕ). get_or l n 0) t.spilleds
 
   -- whether it is fresh
-  pub fresh_at_lem : (n : ℕ) → n < frame.nodes → is_some (get_or work (fresh_at_lem frame n) 0) ≡ get_or fresh n false
+  pub fresh_at_lem : (n : ℕ) → n < frame.nodes → is_some (get_or work (fresh_at frame n) 0) ≡ get_or fresh n false
   fresh_at_lem n h =
-      let z : fresh_at_lem frame 0 + n ≡ fresh_at_lem frame n = omega arith in
-      let q = part_at (fresh_at_lem frame 0) frame.nodes work n h ∙ ap (λ (i : ℕ). get_or work i 0) z in
-      ap is_some (sym q) ∙ (sym (get_or-map is_some (part (fresh_at_lem frame 0) frame.nodes work) n 0) ∙ ap (λ (l : List Bool). get_or l n false) t.freshes)
+      let z : fresh_at frame 0 + n ≡ fresh_at frame n = omega arith in
+      let q = part_at (fresh_at frame 0) frame.nodes work n h ∙ ap (λ (i : ℕ). get_or work i 0) z in
+      ap is_some (sym q) ∙ (sym (get_or-map is_some (part (fresh_at frame 0) frame.nodes work) n 0) ∙ ap (λ (l : List Bool). get_or l n false) t.freshes)
 
   -- its next read
   pub next_at_lem : (n : ℕ) → n < frame.nodes → get_or work (next_at frame n) 0 ≡ get_or next n 0
@@ -172,7 +172,7 @@ module _ (frame : Frame) (work : List ℕ) (freed : ℕ) (next holder spilled : 
         nexts = part_out (next_at frame 0) frame.nodes work (holder_at frame n) v (inr (omega arith)) ∙ t.nexts;
         holders = part_in (holder_at frame 0) frame.nodes work (holder_at frame n) n v (omega arith) h ∙ ap (λ (l : List ℕ). set l n v) t.holders;
         spilleds = part_out (spilled_at frame 0) frame.nodes work (holder_at frame n) v (inl (omega arith)) ∙ t.spilleds;
-        freshes = ap (map is_some) (part_out (fresh_at_lem frame 0) frame.nodes work (holder_at frame n) v (inl (omega arith))) ∙ t.freshes;
+        freshes = ap (map is_some) (part_out (fresh_at frame 0) frame.nodes work (holder_at frame n) v (inl (omega arith))) ∙ t.freshes;
         frees = part_out (freed_at frame 0) freed work (holder_at frame n) v (inl (omega arith)) ∙ t.frees;
         count = t.count;
       }
@@ -184,22 +184,22 @@ module _ (frame : Frame) (work : List ℕ) (freed : ℕ) (next holder spilled : 
         nexts = part_out (next_at frame 0) frame.nodes work (spilled_at frame n) v (inr (omega arith)) ∙ t.nexts;
         holders = part_out (holder_at frame 0) frame.nodes work (spilled_at frame n) v (inr (omega arith)) ∙ t.holders;
         spilleds = part_in (spilled_at frame 0) frame.nodes work (spilled_at frame n) n v (omega arith) h ∙ ap (λ (l : List ℕ). set l n v) t.spilleds;
-        freshes = ap (map is_some) (part_out (fresh_at_lem frame 0) frame.nodes work (spilled_at frame n) v (inl (omega arith))) ∙ t.freshes;
+        freshes = ap (map is_some) (part_out (fresh_at frame 0) frame.nodes work (spilled_at frame n) v (inl (omega arith))) ∙ t.freshes;
         frees = part_out (freed_at frame 0) freed work (spilled_at frame n) v (inl (omega arith)) ∙ t.frees;
         count = t.count;
       }
 
   -- whether it is fresh
-  pub tables_fresh : (n v : ℕ) → n < frame.nodes → Tables frame (set work (fresh_at_lem frame n) v) freed next holder spilled (set fresh n (is_some v)) free
+  pub tables_fresh : (n v : ℕ) → n < frame.nodes → Tables frame (set work (fresh_at frame n) v) freed next holder spilled (set fresh n (is_some v)) free
   tables_fresh n v h =
       record {
-        nexts = part_out (next_at frame 0) frame.nodes work (fresh_at_lem frame n) v (inr (omega arith)) ∙ t.nexts;
-        holders = part_out (holder_at frame 0) frame.nodes work (fresh_at_lem frame n) v (inr (omega arith)) ∙ t.holders;
-        spilleds = part_out (spilled_at frame 0) frame.nodes work (fresh_at_lem frame n) v (inr (omega arith)) ∙ t.spilleds;
+        nexts = part_out (next_at frame 0) frame.nodes work (fresh_at frame n) v (inr (omega arith)) ∙ t.nexts;
+        holders = part_out (holder_at frame 0) frame.nodes work (fresh_at frame n) v (inr (omega arith)) ∙ t.holders;
+        spilleds = part_out (spilled_at frame 0) frame.nodes work (fresh_at frame n) v (inr (omega arith)) ∙ t.spilleds;
         freshes =
-            ap (map is_some) (part_in (fresh_at_lem frame 0) frame.nodes work (fresh_at_lem frame n) n v (omega arith) h)
-            ∙ (map_set is_some (part (fresh_at_lem frame 0) frame.nodes work) n v ∙ ap (λ (l : List Bool). set l n (is_some v)) t.freshes);
-        frees = part_out (freed_at frame 0) freed work (fresh_at_lem frame n) v (inl (omega arith)) ∙ t.frees;
+            ap (map is_some) (part_in (fresh_at frame 0) frame.nodes work (fresh_at frame n) n v (omega arith) h)
+            ∙ (map_set is_some (part (fresh_at frame 0) frame.nodes work) n v ∙ ap (λ (l : List Bool). set l n (is_some v)) t.freshes);
+        frees = part_out (freed_at frame 0) freed work (fresh_at frame n) v (inl (omega arith)) ∙ t.frees;
         count = t.count;
       }
 
@@ -210,7 +210,7 @@ module _ (frame : Frame) (work : List ℕ) (freed : ℕ) (next holder spilled : 
         nexts = part_in (next_at frame 0) frame.nodes work (next_at frame n) n v (omega arith) h ∙ ap (λ (l : List ℕ). set l n v) t.nexts;
         holders = part_out (holder_at frame 0) frame.nodes work (next_at frame n) v (inl (omega arith)) ∙ t.holders;
         spilleds = part_out (spilled_at frame 0) frame.nodes work (next_at frame n) v (inl (omega arith)) ∙ t.spilleds;
-        freshes = ap (map is_some) (part_out (fresh_at_lem frame 0) frame.nodes work (next_at frame n) v (inl (omega arith))) ∙ t.freshes;
+        freshes = ap (map is_some) (part_out (fresh_at frame 0) frame.nodes work (next_at frame n) v (inl (omega arith))) ∙ t.freshes;
         frees = part_out (freed_at frame 0) freed work (next_at frame n) v (inl (omega arith)) ∙ t.frees;
         count = t.count;
       }
@@ -224,7 +224,7 @@ module _ (frame : Frame) (work : List ℕ) (freed : ℕ) (next holder spilled : 
         nexts = part_out (next_at frame 0) frame.nodes work (freed_at frame freed) (suc slot) (inr (omega arith)) ∙ t.nexts;
         holders = part_out (holder_at frame 0) frame.nodes work (freed_at frame freed) (suc slot) (inr (omega arith)) ∙ t.holders;
         spilleds = part_out (spilled_at frame 0) frame.nodes work (freed_at frame freed) (suc slot) (inr (omega arith)) ∙ t.spilleds;
-        freshes = ap (map is_some) (part_out (fresh_at_lem frame 0) frame.nodes work (freed_at frame freed) (suc slot) (inr (omega arith))) ∙ t.freshes;
+        freshes = ap (map is_some) (part_out (fresh_at frame 0) frame.nodes work (freed_at frame freed) (suc slot) (inr (omega arith))) ∙ t.freshes;
         frees =
             ap (λ (i : ℕ). part (freed_at frame 0) (freed + 1) (set work i (suc slot))) (sym z)
             ∙ (part_push (freed_at frame 0) freed work (suc slot) (omega arith) ∙ ap (λ (l : List ℕ). l ++ (suc slot ∷ [])) t.frees);

@@ -29,12 +29,12 @@ use Rattle.allocate.specs.Actions.{Action, instruction_of, store_control, store_
 use Rattle.allocate.specs.State.{Allocated, allocated, all_locked, and_then, Setting, State, Taken, register_of, is_fresh, emit, emit_operation, set_slot, stale, lend}
 use Rattle.allocate.specs.Allocator.{distance, read_later, fetch, release_all, result_register, lower, run_compute, run_keep, home_code, preserve_if, preserve, run_store}
 use Rattle.allocate.specs.StateLaws.{Good}
-use Rattle.allocate.specs.Layout.{slot_at, fresh_at_lem}
+use Rattle.allocate.specs.Layout.{slot_at, fresh_at}
 use Rattle.allocate.specs.Desk.{Desk, Choice, choose, access, store, emitted, operated, taken, fetched}
 use Rattle.allocate.specs.Ready.{Kept}
 use Rattle.allocate.specs.Tasks.{handed, destined, lowered, computed, stowed, home_of, target_of, preserved, written, stored, finished}
 use Rattle.allocate.specs.TaskReady.{handed_kept, stowed_kept, written_kept}
-use Rattle.allocate.specs.Holds.{next_word_lem, Holds, phase_same, fresh_at_lem, tables_holder, tables_spilled, tables_fresh}
+use Rattle.allocate.specs.Holds.{next_word, Holds, phase_same, fresh_at_lem, tables_holder, tables_spilled, tables_fresh}
 use Rattle.allocate.specs.HoldsLaws.{Says, says_state, says_delay, says_output, says_control, emitted_holds, operated_holds}
 use Rattle.allocate.specs.HoldsTake.{Answers, next_word_lem, taken_holds}
 use Rattle.allocate.specs.HoldsFetch.{ReadsAre, fetched_holds, released_both_holds}
@@ -135,8 +135,8 @@ module _ (f : ℕ → ℕ) (c x y dst one two : ℕ) (r : Reads) (reads register
 -- ---- compute
 
 -- a node that is not read again, by its next read's word
-pub next_none : (rest : List (List ℕ)) (position n : ℕ) → eqb (next_word_lem rest position n) 0 ≡ not (read_later rest n)
-unfolding next_word_lem
+pub next_none : (rest : List (List ℕ)) (position n : ℕ) → eqb (next_word rest position n) 0 ≡ not (read_later rest n)
+unfolding next_word
 next_none rest position n = go (read_later rest n)
   where
     go : (b : Bool) → eqb (cond b (suc (position + distance rest n)) 0) 0 ≡ not b
@@ -321,7 +321,7 @@ module _ (frame : Frame) (nodes : List ℕ) (e : Setting) (table program : List 
       rw (
         eqb-suc-zero n,
         z,
-        none_is (get_or d.work (fresh_at_lem frame n) 0),
+        none_is (get_or d.work (fresh_at frame n) 0),
         fresh_at_lem frame d.work _ _ _ _ _ _ h.tables n inside,
         next_word_lem frame nodes e table program prior rest position d s h n inside,
         next_none rest position n,
@@ -350,9 +350,9 @@ module _ (frame : Frame) (nodes : List ℕ) (e : Setting) (table program : List 
       (says.stores register small)
   written_holds d s h to says register small (suc n) inside =
       let z : suc n - 1 ≡ n = omega arith in
-      let k : Kept frame 1 d (cond (eqb (suc n) 0) (emitted to.code register to.index d) (store (emitted to.code register to.index d) (fresh_at_lem frame (suc n - 1)) 0)) =
+      let k : Kept frame 1 d (cond (eqb (suc n) 0) (emitted to.code register to.index d) (store (emitted to.code register to.index d) (fresh_at frame (suc n - 1)) 0)) =
       written_kept frame nodes d h.ready register (suc n) inside to in
-      let k₁ : Kept frame 1 d (store (emitted to.code register to.index d) (fresh_at_lem frame n) 0) = rw (eqb-suc-zero n, z) at k in
+      let k₁ : Kept frame 1 d (store (emitted to.code register to.index d) (fresh_at frame n) 0) = rw (eqb-suc-zero n, z) at k in
       let x =
       emitted_holds frame nodes e table program prior rest position d s h (store_action to.code to.index register) to.code register to.index
       (says.stores register small) in

@@ -26,11 +26,11 @@ use Rattle.allocate.specs.Allocator.{distance, read_later, take_register, bring_
 use Rattle.allocate.specs.Outcomes.{Post}
 use Rattle.allocate.specs.StateLaws.{Good}
 use Rattle.allocate.specs.FetchLaws.{Took, take_took}
-use Rattle.allocate.specs.Layout.{slot_at, holder_at, spilled_at, fresh_at_lem, freed_at}
+use Rattle.allocate.specs.Layout.{slot_at, holder_at, spilled_at, fresh_at, freed_at}
 use Rattle.allocate.specs.Desk.{Desk, Choice, choose, access, emitted, operated, reload_code, control_supply, sample_supply, supply_of, brought, loaded, filled, taken, fetched, dropped_register, dropped_slot, released, released_if, released_both}
 use Rattle.allocate.specs.DeskLaws.{register_none, register_dropped, slot_none, slot_fixed, slot_freed}
 use Rattle.allocate.specs.Ready.{Kept, dropped_slot_kept}
-use Rattle.allocate.specs.Holds.{origin_of, next_word_lem, next_words, Tables, Holds, phase_same, holder_at_lem, spilled_at_lem, fresh_at_lem, tables_spilled, tables_push}
+use Rattle.allocate.specs.Holds.{origin_of, next_word, next_words, Tables, Holds, phase_same, holder_at_lem, spilled_at_lem, fresh_at_lem, tables_spilled, tables_push}
 use Rattle.allocate.specs.HoldsLaws.{Says, says_load, says_from, holds_by, emitted_holds, operated_holds, left, left_holds}
 use Rattle.allocate.specs.HoldsTake.{Locks, Answers, phase_sixteen, next_word_lem, taken_holds}
 
@@ -131,7 +131,7 @@ module _ (frame : Frame) (nodes : List ℕ) (e : Setting) (table program : List 
   unfolding loaded bring
   loaded_holds d s h node register here small src =
       rw (← (fresh_at_lem frame d.work _ _ _ _ _ _ h.tables node here))
-      (go (get_or d.work (fresh_at_lem frame node) 0) (fresh_at_lem frame d.work _ _ _ _ _ _ h.tables node here))
+      (go (get_or d.work (fresh_at frame node) 0) (fresh_at_lem frame d.work _ _ _ _ _ _ h.tables node here))
     where
       slot : get_or d.work (spilled_at frame node) 0 - 1 ≡ pred (slot_of s node)
       slot = rw (spilled_at_lem frame d.work _ _ _ _ _ _ h.tables node here) (omega arith)
@@ -300,7 +300,7 @@ module _ (frame : Frame) (nodes : List ℕ) (e : Setting) (table program : List 
 
   -- .. where it is not read again
   pub released_if_holds : (d : Desk) (s : State) → H d s → (node : ℕ) → node < frame.nodes → H (released_if frame node d) (release_if (read_later rest node) e node s)
-  unfolding released_if next_word_lem
+  unfolding released_if next_word
   released_if_holds d s h node here = rw (next_word_lem frame nodes e table program prior rest position d s h node here) (go (read_later rest node))
     where
       go : (b : Bool) → H (cond (eqb (cond b (suc (position + distance rest node)) 0) 0) (released frame node d) d) (release_if b e node s)

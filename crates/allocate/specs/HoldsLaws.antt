@@ -22,7 +22,7 @@ use Rattle.allocate.specs.Actions.{Operation, Action, load, compute, spill, relo
 use Rattle.allocate.specs.ActionWords.{step_of, operation_in, operations_in, step_words, instruction_words, operations_append, instructions_append, steps_append, steps_length, instructions_length}
 use Rattle.allocate.specs.State.{Setting, State, reloadable, emit, emit_operation, to_slot, from_slot, spill_to, spill_in, spill_out, place, vacate}
 use Rattle.allocate.specs.Allocator.{spill_if, evict}
-use Rattle.allocate.specs.Layout.{holder_at, spilled_at, fresh_at_lem}
+use Rattle.allocate.specs.Layout.{holder_at, spilled_at, fresh_at}
 use Rattle.allocate.specs.Registers.{reloads, count_one, held_of}
 use Rattle.allocate.specs.Desk.{Desk, desk, store, with_allocator, pair, slots_to, owner_to, emitted, operated, spill_code, reload_code, next_slot, spilt, settled, evicted}
 use Rattle.allocate.specs.Ready.{ReadyAt, Kept, emitted_kept, operated_kept, spilt_kept, settled_kept, dropped_kept, ready_owner}
@@ -307,7 +307,7 @@ module _ (frame : Frame) (nodes : List ℕ) (e : Setting) (table program : List 
   reloads_is d s h node here =
       let t = h.tables in
       rw (spilled_at_lem frame d.work _ _ _ _ _ _ t node here, ← fresh_at_lem frame d.work _ _ _ _ _ _ t node here)
-      (go (get_or s.spilled node 0) (get_or d.work (fresh_at_lem frame node) 0))
+      (go (get_or s.spilled node 0) (get_or d.work (fresh_at frame node) 0))
     where
       go : (a f : ℕ) → cond (eqb a 0) (not (eqb f 0)) true ≡ (is_some a || is_some f)
       go zero zero = refl

@@ -24,7 +24,7 @@ use Rattle.allocate.specs.RustKeys as RustKeys
 use Rattle.allocate.specs.Layout.{next_at}
 use Rattle.allocate.specs.Registers.{usable_bit, is_free, free_from, reloads, next_read, keeps_less, may_evict, better_of, victim_of, victim_le}
 use Rattle.allocate.specs.Desk.{Desk, Choice, choose, settled, evicted, taken_from, taken, spilt}
-use Rattle.allocate.specs.Holds.{Phase, next_word_lem, Holds, next_at_lem}
+use Rattle.allocate.specs.Holds.{Phase, next_word, Holds, next_at_lem}
 use Rattle.allocate.specs.HoldsLaws.{holds_by, settled_holds, left, evicted_holds, settled_evicted, reloads_is}
 
 -- ---- the free register
@@ -175,10 +175,10 @@ module _ (frame : Frame) (nodes : List ℕ) (e : Setting) (table program : List 
   Answers c all_locked = c.register ≡ 16
 
   -- the next read's word
-  pub next_word_lem : (d : Desk) (s : State) → H d s → (n : ℕ) → n < frame.nodes → get_or d.work (next_at frame n) 0 ≡ next_word_lem rest position n
+  pub next_word_lem : (d : Desk) (s : State) → H d s → (n : ℕ) → n < frame.nodes → get_or d.work (next_at frame n) 0 ≡ next_word rest position n
   next_word_lem d s h n here =
       let z : 0 + n ≡ n = omega arith in
-      next_at_lem frame d.work _ _ _ _ _ _ h.tables n here ∙ (map_at (next_word_lem rest position) 0 frame.nodes n 0 here ∙ ap (next_word_lem rest position) z)
+      next_at_lem frame d.work _ _ _ _ _ _ h.tables n here ∙ (map_at (next_word rest position) 0 frame.nodes n 0 here ∙ ap (next_word rest position) z)
 
   module _ (d : Desk) (s : State) (h : H d s) where
     -- the node in a register, or the first node, is a node
@@ -188,7 +188,7 @@ module _ (frame : Frame) (nodes : List ℕ) (e : Setting) (table program : List 
         omega (arith, h.ready.owners.each r, h.ready.wide.some, o)
 
     next_key : (n : ℕ) → n < frame.nodes → next_read frame d.work n ≡ RustKeys.next_read 0x1_0000_0000 (suc position) rest n
-    unfolding next_read next_word_lem
+    unfolding next_read next_word
     next_key n here = rw (next_word_lem d s h n here, next_is 0x1_0000_0000 (suc position) rest n) (go (read_later rest n))
       where
         go : (b : Bool)

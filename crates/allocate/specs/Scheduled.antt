@@ -9,7 +9,7 @@ use Rattle.std.proofs.Math.Dec.{eqb_refl}
 use Rattle.std.proofs.lemmas.Bool.{not-true}
 use Rattle.tables.specs.Tests.{or_pass, both}
 use Rattle.plan.specs.Nodes.{Flow, Node, operands, node_at}
-use Rattle.plan.specs.Origins.{control_origin, Origin, no_origin_lem, has_origin, origin_at, canonical}
+use Rattle.plan.specs.Origins.{control_origin, Origin, no_origin, has_origin, origin_at, canonical}
 use Rattle.plan.specs.Schedule.{writes_from, writes, Task, compute_task, keep_task, store_task, task_reads, Write, waits, tasks_of, schedule_from, schedule, control_task, control_tasks}
 use Rattle.plan.specs.Lists.{member, filter, any_of, count}
 use Rattle.plan.specs.Hoist.{number}
@@ -34,12 +34,12 @@ module _ (ns : List Node) (ss : List Origin) (registers home : List ℕ) (in_con
 
   -- a node of the table that, if it is computed, is done
   abbrev pub Usable : List ℕ → ℕ → Type 0
-  Usable done a = (a < length ss) × (T (has_origin (origin_at ss a)) ⊎ ((origin_at ss a ≡ no_origin_lem) × T (member a done)))
+  Usable done a = (a < length ss) × (T (has_origin (origin_at ss a)) ⊎ ((origin_at ss a ≡ no_origin) × T (member a done)))
 
   read_ok : (done : List ℕ) (a : ℕ) → Usable done a → (canonical ss a < length ss) × T (known setting_of done (canonical ss a))
   read_ok done a u = go u.1
     where
-      go : T (has_origin (origin_at ss a)) ⊎ ((origin_at ss a ≡ no_origin_lem) × T (member a done))
+      go : T (has_origin (origin_at ss a)) ⊎ ((origin_at ss a ≡ no_origin) × T (member a done))
           → (canonical ss a < length ss) × T (known setting_of done (canonical ss a))
       go (inl t) = let r = canonical_origin ss a u.0 t in (r.0, or_second (member (canonical ss a) done) (has_origin (origin_at ss (canonical ss a))) r.1)
       go (inr t) = rw (canonical_computed ss a t.0) (u.0, or_first (member a done) (has_origin (origin_at ss a)) t.1)
@@ -75,9 +75,9 @@ module _ (ns : List Node) (ss : List Origin) (registers home : List ℕ) (in_con
   writes_ok done (w ∷ ws) os a k last = (reads_write done w.code w.index w.value a.0, writes_ok done ws os a.1 k 0)
 
   module _ (comps : List ℕ) (ord : Ordered ns)
-      (comp-src : (n : ℕ) → T (member n comps) → (n < length ss) × (origin_at ss n ≡ no_origin_lem))
+      (comp-src : (n : ℕ) → T (member n comps) → (n < length ss) × (origin_at ss n ≡ no_origin))
       (comp-ops : (n a : ℕ) → T (member n comps) → T (member a (operands (node_at ns n))) → (a < length ss)
-      × (T (has_origin (origin_at ss a)) ⊎ ((origin_at ss a ≡ no_origin_lem) × T (member a comps))))
+      × (T (has_origin (origin_at ss a)) ⊎ ((origin_at ss a ≡ no_origin) × T (member a comps))))
     where
       -- done and rest are the two parts of comps, in order
       pub record Parts (done rest : List ℕ) (k : ℕ) : Type 0 where
@@ -120,8 +120,8 @@ module _ (ns : List Node) (ss : List Origin) (registers home : List ℕ) (in_con
           is_done a lt (inl u) = u
           is_done a lt (inr u) = absurd (omega (arith, ascending_ge n (n ∷ rest) a (omega arith, p.high.1) u))
 
-          before : (a : ℕ) → T (member a (operands (node_at ns n))) → T (has_origin (origin_at ss a)) ⊎ ((origin_at ss a ≡ no_origin_lem) × T (member a comps))
-              → T (has_origin (origin_at ss a)) ⊎ ((origin_at ss a ≡ no_origin_lem) × T (member a done))
+          before : (a : ℕ) → T (member a (operands (node_at ns n))) → T (has_origin (origin_at ss a)) ⊎ ((origin_at ss a ≡ no_origin) × T (member a comps))
+              → T (has_origin (origin_at ss a)) ⊎ ((origin_at ss a ≡ no_origin) × T (member a done))
           before a t (inl u) = inl u
           before a t (inr u) = inr (u.0, is_done a (ord n a t) (p.split a u.1))
 
@@ -134,7 +134,7 @@ module _ (ns : List Node) (ss : List Origin) (registers home : List ℕ) (in_con
 
       -- a value that is a source or computed
       abbrev Value : ℕ → Type 0
-      Value a = (a < length ss) × (T (has_origin (origin_at ss a)) ⊎ ((origin_at ss a ≡ no_origin_lem) × T (member a comps)))
+      Value a = (a < length ss) × (T (has_origin (origin_at ss a)) ⊎ ((origin_at ss a ≡ no_origin) × T (member a comps)))
 
       value_usable : (done rest : List ℕ) (k a : ℕ) → Parts done rest k → Value a → (T (member a rest) → ⊥) → Usable done a
       value_usable done rest k a p v off = (v.0, go v.1)
@@ -143,8 +143,8 @@ module _ (ns : List Node) (ss : List Origin) (registers home : List ℕ) (in_con
           go₂ (inl u) = u
           go₂ (inr u) = absurd (off u)
 
-          go : T (has_origin (origin_at ss a)) ⊎ ((origin_at ss a ≡ no_origin_lem) × T (member a comps))
-              → T (has_origin (origin_at ss a)) ⊎ ((origin_at ss a ≡ no_origin_lem) × T (member a done))
+          go : T (has_origin (origin_at ss a)) ⊎ ((origin_at ss a ≡ no_origin) × T (member a comps))
+              → T (has_origin (origin_at ss a)) ⊎ ((origin_at ss a ≡ no_origin) × T (member a done))
           go (inl u) = inl u
           go (inr u) = inr (u.0, go₂ (p.split a u.1))
 

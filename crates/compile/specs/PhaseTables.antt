@@ -21,7 +21,7 @@ use Rattle.expand.specs.Good.{GoodNode}
 use Rattle.plan.specs.declared.Sizes.{Sizes}
 use Rattle.plan.specs.Lists.{member, filter, any_of, count_up, count, is_some}
 use Rattle.plan.specs.ListLaws.{count_up_length, count_le}
-use Rattle.plan.specs.Nodes.{Node, input_node, network_node, constant_node, parameter_node, state_node, delay_node, binary_node, unary_node, Flow, is_computed, node_at_lem, roots}
+use Rattle.plan.specs.Nodes.{Node, input_node, network_node, constant_node, parameter_node, state_node, delay_node, binary_node, unary_node, Flow, is_computed, node_at, roots}
 use Rattle.plan.specs.TestLaws.{or_first, or_second}
 use Rattle.plan.specs.Flow.{node_in, flow_of}
 use Rattle.plan.specs.FlowLaws.{IsNode, good_flow}
@@ -388,8 +388,8 @@ module _ (sizes : Sizes) (nodes updates stores : List ℕ) (output words : ℕ) 
   unfolding flow_of
   flow_output = refl
 
-  flow_node : (n : ℕ) → n < sizes.nodes → node_at_lem flow.nodes n ≡ node_in nodes n
-  flow_node n h = ap (λ (x : List Node). node_at_lem x n) flow_nodes ∙ node_at_lem nodes sizes.nodes n h
+  flow_node : (n : ℕ) → n < sizes.nodes → node_at flow.nodes n ≡ node_in nodes n
+  flow_node n h = ap (λ (x : List Node). node_at x n) flow_nodes ∙ node_at_lem nodes sizes.nodes n h
 
   pub slots_count : length (plan_of flow).slots ≡ sizes.nodes
   unfolding plan_of
@@ -400,7 +400,7 @@ module _ (sizes : Sizes) (nodes updates stores : List ℕ) (output words : ℕ) 
 
   -- what is computed
   computed_facts : (mask fixed : ℕ) (control : Bool) (table : List ℕ) (e : Setting) → e.nodes ≡ flow.nodes → (n : ℕ) → n < sizes.nodes
-      → T (is_computed (node_at_lem flow.nodes n)) → TaskFacts (frame_in sizes mask fixed control) (lent nodes updates stores output) e table (compute_task n)
+      → T (is_computed (node_at flow.nodes n)) → TaskFacts (frame_in sizes mask fixed control) (lent nodes updates stores output) e table (compute_task n)
   computed_facts mask fixed control table e q n h t =
       (h, (rw q t, operands_below sizes nodes words lends n h (rw (flow_node n h) at t)))
 
@@ -687,7 +687,7 @@ module _ (sizes : Sizes) (nodes updates stores : List ℕ) (output words : ℕ) 
               (λ n t.
               let c = comps_in flow good n t in
               let h : n < sizes.nodes = rw flow_count at c.0 in
-              let s = sample_none (get_or (slots flow good) n 0) (node_at_lem flow.nodes n) (rw (sample_at (slots flow good) flow.nodes n c.0) at c.2) in
+              let s = sample_none (get_or (slots flow good) n 0) (node_at flow.nodes n) (rw (sample_at (slots flow good) flow.nodes n c.0) at c.2) in
               computed_facts mask 0 false work e refl n h s.1)
               (rw flow_output (out, inr (inr (refl, (refl, refl))))));
           none = no_next sizes mask 0 false work room r.unheld;

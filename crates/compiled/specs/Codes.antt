@@ -20,31 +20,31 @@ unary_code c = cond (eqb c 12) 12 13
 
 -- ---- of a node's code it is that code
 
-abbrev same_code_lem : Kind → ℕ → Bool
-same_code_lem Source c = true
-same_code_lem Constant c = true
-same_code_lem Parameter c = true
-same_code_lem State c = true
-same_code_lem Delay c = true
-same_code_lem Binary c = eqb (binary_code c) c
-same_code_lem Divide c = true
-same_code_lem Unary c = eqb (unary_code c) c
-same_code_lem Recip c = true
-same_code_lem Tanh c = true
-same_code_lem Sigmoid c = true
-same_code_lem Unknown c = true
+abbrev same_code : Kind → ℕ → Bool
+same_code Source c = true
+same_code Constant c = true
+same_code Parameter c = true
+same_code State c = true
+same_code Delay c = true
+same_code Binary c = eqb (binary_code c) c
+same_code Divide c = true
+same_code Unary c = eqb (unary_code c) c
+same_code Recip c = true
+same_code Tanh c = true
+same_code Sigmoid c = true
+same_code Unknown c = true
 
 abbrev listed : ℕ → Bool
-listed c = same_code_lem (kind_of c) c
+listed c = same_code (kind_of c) c
 
 every_code : every listed 18 ≡ true
 unfolding every ◌&◌ kind_of
 every_code = refl
 
-same_code_lem : (c : ℕ) → same_code_lem (kind_of c) c ≡ true
+same_code_lem : (c : ℕ) → same_code (kind_of c) c ≡ true
 same_code_lem c = go (dec_lt c 18)
   where
-    go : Dec (c < 18) → same_code_lem (kind_of c) c ≡ true
+    go : Dec (c < 18) → same_code (kind_of c) c ≡ true
     go (yes h) = every_true listed 18 every_code c h
     go (no h) = rw (kind_unknown c (omega arith) (λ q. omega arith) (λ q. omega arith) (λ q. omega arith) (λ q. omega arith))
 

@@ -10,7 +10,7 @@ use borrow.Author.Tests.{ne_eqb}
 use Rattle.plan.specs.declared.Sizes.{Sizes}
 use Rattle.plan.specs.Lists.{count_up, count, filter}
 use Rattle.plan.specs.ListLaws.{count_up_length}
-use Rattle.plan.specs.Nodes.{Node, is_computed, node_at_lem}
+use Rattle.plan.specs.Nodes.{Node, is_computed, node_at}
 use Rattle.plan.specs.Hoist.{hoistable, homes_of, number, control_computations}
 use Rattle.plan.specs.Schedule.{Task, control_task, control_tasks}
 use Rattle.plan.specs.OriginLaws.{number_length}
@@ -250,14 +250,14 @@ tasks_append slots (x ∷ xs) ys =
 
 -- what the control phase computes of the first i nodes
 abbrev pub computes_to : List Node → List Bool → ℕ → List ℕ
-computes_to ns reached i = filter (λ n. get_or reached n false && is_computed (node_at_lem ns n)) (count_up 0 i)
+computes_to ns reached i = filter (λ n. get_or reached n false && is_computed (node_at ns n)) (count_up 0 i)
 
 computes_next : (ns : List Node) (reached : List Bool) (i : ℕ)
-    → computes_to ns reached (i + 1) ≡ computes_to ns reached i ++ cond (get_or reached i false && is_computed (node_at_lem ns i)) (i ∷ []) []
+    → computes_to ns reached (i + 1) ≡ computes_to ns reached i ++ cond (get_or reached i false && is_computed (node_at ns i)) (i ∷ []) []
 computes_next ns reached i =
     let z : i + 1 ≡ suc i = omega arith in
     let y : 0 + i ≡ i = omega arith in
-    let p : ℕ → Bool = λ n. get_or reached n false && is_computed (node_at_lem ns n) in
+    let p : ℕ → Bool = λ n. get_or reached n false && is_computed (node_at ns n) in
     rw z (ap (filter p) (rw y at (count_up_snoc 0 i)) ∙ filter_snoc p (count_up 0 i) i)
 
 -- a node's words are its tasks'

@@ -10,7 +10,7 @@ use Rattle.tables.specs.Tests.{or_pass}
 use Rattle.block.specs.Block.{code, first, second}
 use Rattle.plan.specs.declared.Sizes.{Sizes}
 use Rattle.plan.specs.Lists.{member}
-use Rattle.plan.specs.Nodes.{Node, operands, node_at_lem}
+use Rattle.plan.specs.Nodes.{Node, operands, node_at}
 use Rattle.plan.specs.Flow.{node_in}
 use Rattle.plan.specs.Hoist.{invariant_node, invariants, hoistable, mark_all, sweep}
 use Rattle.plan.specs.TestLaws.{or_first, or_second}
@@ -145,7 +145,7 @@ module _ (sizes : Sizes) (nodes : List ℕ) (words : ℕ) (lent : Lent sizes nod
       → length marks ≡ sizes.nodes → length invariant ≡ sizes.nodes → base + sizes.nodes ≤ length table → Region 0 (flags invariant) table
       → now ≡ written base (flags marks) table
       → swept_node base through nodes i now
-      ≡ written base (flags (mark_all (cond (get_or marks i false && goes_down through every invariant i) (operands (node_at_lem every i)) []) marks)) table
+      ≡ written base (flags (mark_all (cond (get_or marks i false && goes_down through every invariant i) (operands (node_at every i)) []) marks)) table
   unfolding swept_node
   swept_node_lem base through marks invariant table now i below apart long same room region e =
       let f : length (flags marks) ≡ sizes.nodes = flags_length marks ∙ long in
@@ -192,7 +192,7 @@ unfolding sweep Sweeps
 sweep_next sizes nodes base through table now next i j lent e below apart near inv q marks invariant long same region other =
     let s = inv marks invariant long same region other in
     let down : ℕ → Bool = goes_down through (nodes_to nodes sizes.nodes) invariant in
-    let list : List ℕ = cond (get_or s.seen i false && down i) (operands (node_at_lem (nodes_to nodes sizes.nodes) i)) [] in
+    let list : List ℕ = cond (get_or s.seen i false && down i) (operands (node_at (nodes_to nodes sizes.nodes) i)) [] in
     record {
       seen = mark_all list s.seen;
       long = length_mark_all list s.seen ∙ s.long;

@@ -27,7 +27,7 @@ use Rattle.plan.specs.Hoist.{hoistable, mark_all, needed_by, homes_of}
 use Rattle.plan.specs.Flow.{node_in, flow_of}
 use Rattle.plan.specs.Reached.{length_mark_all, length_sweep}
 use Rattle.plan.specs.ControlLaws.{map_append, homes_to, homes_to_length}
-use Rattle.plan.specs.SampleLaws.{sample_in_lem, sample_in_lem}
+use Rattle.plan.specs.SampleLaws.{sample_in, sample_in_lem}
 use Rattle.plan.specs.Chains.{Canonicals, Reading, Chained, last_node, after_in, chain_writes, writes_after, tasks_after, tasks_to, sample_words}
 use Rattle.plan.specs.ReadOrder.{last_of, last_low, canonical_below, sample_same, comes_first, comes_here, Sourced, reads, turned, after_is}
 use Rattle.plan.specs.ControlShare.{flow_in, invariant_of, needed_of, hoisted_of}
@@ -187,18 +187,18 @@ module _ (sizes : Sizes) (nodes updates stores : List ℕ) (output : ℕ) (table
   origin_is i l = sample_at (plan_of flow).slots ns i (rw (nodes_length nodes n) l) ∙ ap (sample_origin (get_or (plan_of flow).slots i 0)) (node_at_lem nodes n i l)
 
   -- the sample phase's computations
-  computation : (i : ℕ) → i < n → sample_in_lem n nodes table i ≡ (get_or (needed_of flow) i false && not (has_origin (origin_at origins i)))
+  computation : (i : ℕ) → i < n → sample_in n nodes table i ≡ (get_or (needed_of flow) i false && not (has_origin (origin_at origins i)))
   computation i l =
       sample_in_lem sizes nodes (length table) r.lent i l (get_or (needed_of flow) i false) (get_or (plan_of flow).slots i 0) table
       (region_at (needed_at sizes) (flags (needed_of flow)) table (n + i) i r.needed refl (rw needed_long l) ∙ flags_at (needed_of flow) i)
       (region_at (slots_at sizes) (plan_of flow).slots table (2 * n + i) i r.slots refl (rw slots_long l))
       ∙ ap (λ (o : Origin). get_or (needed_of flow) i false && not (has_origin o)) (sym (origin_is i l))
 
-  computations : filter (sample_in_lem n nodes table) (count_up 0 n) ≡ sample_computations ns (needed_of flow) origins
+  computations : filter (sample_in n nodes table) (count_up 0 n) ≡ sample_computations ns (needed_of flow) origins
   unfolding sample_computations
   computations =
       rw (nodes_length nodes n)
-      (filter_count (sample_in_lem n nodes table) (λ m. get_or (needed_of flow) m false && not (has_origin (origin_at origins m))) 0 n (λ m h l. computation m (omega arith)))
+      (filter_count (sample_in n nodes table) (λ m. get_or (needed_of flow) m false && not (has_origin (origin_at origins m))) 0 n (λ m h l. computation m (omega arith)))
 
   sourced : Sourced sizes nodes origins table
   sourced =
@@ -233,7 +233,7 @@ module _ (sizes : Sizes) (nodes updates stores : List ℕ) (output : ℕ) (table
 
   -- the last computation for which a write waits, and one
   abbrev after : Write → ℕ
-  after x = last_of (λ m. sample_in_lem n nodes table m && waits ns origins x m) n
+  after x = last_of (λ m. sample_in n nodes table m && waits ns origins x m) n
 
   after_state : (k v : ℕ) → k < sizes.states → v < n → after_in sizes nodes read k v ≡ after (record { code = 10; index = k; value = v })
   after_state k v l below = after_is sizes nodes origins table sourced k (record { code = 10; index = k; value = v }) (r.firsts.states k l) below
@@ -249,12 +249,12 @@ module _ (sizes : Sizes) (nodes updates stores : List ℕ) (output : ℕ) (table
       go : Dec (w < sizes.states) → after_in sizes nodes read w v ≤ n
       go (yes h) =
           let x : Write = record { code = 10; index = w; value = v } in
-          rw (after_state w v h below) (last_low (λ m. sample_in_lem n nodes table m && waits ns origins x m) n)
+          rw (after_state w v h below) (last_low (λ m. sample_in n nodes table m && waits ns origins x m) n)
       go (no h) =
           let x : Write = record { code = 11; index = w - sizes.states; value = v } in
           let z : w ≡ sizes.states + (w - sizes.states) = omega arith in
           rw (ap (λ (k : ℕ). after_in sizes nodes read k v) z ∙ after_delay (w - sizes.states) v (omega arith) below)
-          (last_low (λ m. sample_in_lem n nodes table m && waits ns origins x m) n)
+          (last_low (λ m. sample_in n nodes table m && waits ns origins x m) n)
 
   update_state : (k : ℕ) → k < sizes.states → get_or (updates ++ stores) k 0 ≡ get_or updates k 0
   update_state k l = get_or-append updates stores 0 k (rw r.states l)
@@ -354,7 +354,7 @@ module _ (sizes : Sizes) (nodes updates stores : List ℕ) (output : ℕ) (table
       sum : sizes.states + sizes.delays ≡ length updates + length stores
       sum = omega (arith, r.states, r.delays)
 
-  sample_done : (k : ℕ) → k < n → sample_in_lem n nodes done k ≡ sample_in_lem n nodes table k
+  sample_done : (k : ℕ) → k < n → sample_in n nodes done k ≡ sample_in n nodes table k
   sample_done k l = sample_same n nodes done table k (order_beside (n + k) (inl (omega arith)) (omega arith)) (order_beside (2 * n + k) (inl (omega arith)) (omega arith))
 
   -- the writes right after computation a - 1, or first of all
@@ -363,26 +363,26 @@ module _ (sizes : Sizes) (nodes updates stores : List ℕ) (output : ℕ) (table
 
   -- the tasks from node k on
   from : (k m : ℕ) → k + m ≡ n
-      → tasks_from sizes nodes done k m ≡ map (task_word sizes) (schedule_from ns origins (writes flow) (filter (sample_in_lem n nodes table) (count_up k m)))
+      → tasks_from sizes nodes done k m ≡ map (task_word sizes) (schedule_from ns origins (writes flow) (filter (sample_in n nodes table) (count_up k m)))
   unfolding schedule_from tasks_after task_word
   from k zero e = refl
-  from k (suc m) e = rw (sample_done k (omega arith)) (go (sample_in_lem n nodes table k) refl (from (suc k) m (omega arith)))
+  from k (suc m) e = rw (sample_done k (omega arith)) (go (sample_in n nodes table k) refl (from (suc k) m (omega arith)))
     where
       rest : List ℕ
-      rest = filter (sample_in_lem n nodes table) (count_up (suc k) m)
+      rest = filter (sample_in n nodes table) (count_up (suc k) m)
 
       last : Write → Bool
       last x = waits ns origins x k && not (any_of (waits ns origins x) rest)
 
-      here : sample_in_lem n nodes table k ≡ true → writes_after sizes done (k + 1) ≡ map (task_word sizes) (tasks_of (filter last (writes flow)))
+      here : sample_in n nodes table k ≡ true → writes_after sizes done (k + 1) ≡ map (task_word sizes) (tasks_of (filter last (writes flow)))
       here q =
           let one : k + 1 ≡ suc k = omega arith in
           rw one (right_after (suc k) (omega arith)
           ∙ ap (λ (ws : List Write). map (task_word sizes) (tasks_of ws)) (filter_same (λ x. eqb (after x) (suc k)) last (writes flow) (λ x.
-          ap (λ (j : ℕ). eqb (last_of (λ m. sample_in_lem n nodes table m && waits ns origins x m) j) (suc k)) (sym e)
-          ∙ comes_here (sample_in_lem n nodes table) (waits ns origins x) k m q)))
+          ap (λ (j : ℕ). eqb (last_of (λ m. sample_in n nodes table m && waits ns origins x m) j) (suc k)) (sym e)
+          ∙ comes_here (sample_in n nodes table) (waits ns origins x) k m q)))
 
-      go : (b : Bool) → sample_in_lem n nodes table k ≡ b → tasks_from sizes nodes done (suc k) m ≡ map (task_word sizes) (schedule_from ns origins (writes flow) rest)
+      go : (b : Bool) → sample_in n nodes table k ≡ b → tasks_from sizes nodes done (suc k) m ≡ map (task_word sizes) (schedule_from ns origins (writes flow) rest)
           → cond b (k ∷ writes_after sizes done (k + 1)) [] ++ tasks_from sizes nodes done (suc k) m
           ≡ map (task_word sizes) (schedule_from ns origins (writes flow) (cond b (k ∷ rest) rest))
       go true q ih =
@@ -390,7 +390,7 @@ module _ (sizes : Sizes) (nodes updates stores : List ℕ) (output : ℕ) (table
           ((λ j. here q j ++ ih j) ∙ sym (map_append (task_word sizes) (tasks_of (filter last (writes flow))) (schedule_from ns origins (writes flow) rest)))
       go false q ih = ih
 
-  planned : (plan_of flow).sample_tasks ≡ schedule ns origins (writes flow) (filter (sample_in_lem n nodes table) (count_up 0 n)) output
+  planned : (plan_of flow).sample_tasks ≡ schedule ns origins (writes flow) (filter (sample_in n nodes table) (count_up 0 n)) output
   unfolding plan_of flow_of
   planned = ap (λ (list : List ℕ). schedule ns origins (writes flow) list output) (sym computations)
 
@@ -398,14 +398,14 @@ module _ (sizes : Sizes) (nodes updates stores : List ℕ) (output : ℕ) (table
   pub order_words : sample_words sizes nodes done ≡ map (task_word sizes) (plan_of flow).sample_tasks
   unfolding sample_words tasks_to schedule task_word
   order_words =
-      let computed : List ℕ = filter (sample_in_lem n nodes table) (count_up 0 n) in
+      let computed : List ℕ = filter (sample_in n nodes table) (count_up 0 n) in
       let before : Write → Bool = λ x. not (any_of (waits ns origins x) computed) in
       let output-word : List ℕ = (2 * n + (sizes.states + sizes.delays)) ∷ [] in
       let z : 0 + n ≡ n = omega arith in
       let first : writes_after sizes done 0 ≡ map (task_word sizes) (tasks_of (filter before (writes flow))) =
       right_after 0 (omega arith)
       ∙ ap (λ (ws : List Write). map (task_word sizes) (tasks_of ws))
-      (filter_same (λ x. eqb (after x) 0) before (writes flow) (λ x. comes_first (sample_in_lem n nodes table) (waits ns origins x) n)) in
+      (filter_same (λ x. eqb (after x) 0) before (writes flow) (λ x. comes_first (sample_in n nodes table) (waits ns origins x) n)) in
       ap (λ (list : List ℕ). list ++ output-word) (rw z at (tasks_split sizes nodes done 0 n))
       ∙ (append_assoc (writes_after sizes done 0) (tasks_from sizes nodes done 0 n) output-word
       ∙ ((λ j. first j ++ (from 0 n z j ++ output-word))
@@ -447,7 +447,7 @@ module _ (sizes : Sizes) (nodes updates stores : List ℕ) (output : ℕ) (table
       let z : b ≡ suc k = eqb→eq b (suc k) t in passes (ltb k b) (lt-ltb k b (omega arith))))
       (λ w. goes_within sizes nodes (updates ++ stores) read (λ b. ltb (suc k) b) (λ b. ltb k b) w (λ b t.
       let h : suc k < b = ltb-true (suc k) b (is_true (ltb (suc k) b) t) in passes (ltb k b) (lt-ltb k b (omega arith)))) in
-      omega (arith, few k (omega arith), more, length-append (tasks_to sizes nodes done k) (tasks_after sizes nodes done k), one (sample_in_lem n nodes done k))
+      omega (arith, few k (omega arith), more, length-append (tasks_to sizes nodes done k) (tasks_after sizes nodes done k), one (sample_in n nodes done k))
     where
       one : (b : Bool) → length (cond b (k ∷ writes_after sizes done (k + 1)) []) ≤ suc (passing (right (suc k)) all)
       one true = let z : k + 1 ≡ suc k = omega arith in rw z (omega (arith, right_length (suc k) (omega arith)))

@@ -4,7 +4,7 @@ use Rattle.std.specs.Prelude.{◌≡◌, refl, ◌⊎◌, Bool, false, not, true
 use Rattle.std.proofs.lemmas.Bool.{false≢true}
 use Rattle.std.proofs.Math.Dec.{eqb_refl}
 use Rattle.plan.specs.Nodes.{Node, input_node, network_node, constant_node, parameter_node, state_node, delay_node, binary_node, unary_node, is_computed, node_at}
-use Rattle.plan.specs.Origins.{Origin, no_origin_lem, immediate, loaded, has_origin, is_load, origin_at, control_origin, node_origin, sample_origin, sample_origins, home_of, canonical_as, canonical}
+use Rattle.plan.specs.Origins.{Origin, no_origin, immediate, loaded, has_origin, is_load, origin_at, control_origin, node_origin, sample_origin, sample_origins, home_of, canonical_as, canonical}
 use Rattle.plan.specs.Lists.{member, count_up, count}
 use Rattle.plan.specs.Hoist.{number, invariant_node}
 use Rattle.plan.specs.ListLaws.{count_up_below, first_finds, count_up_member, first_some}
@@ -79,7 +79,7 @@ control_at (x ∷ xs) zero h = refl
 control_at (x ∷ xs) (suc n) h = control_at xs n (omega arith)
 
 -- what is computed has none there
-pub control_computed : (x : Node) → T (is_computed x) → control_origin x ≡ no_origin_lem
+pub control_computed : (x : Node) → T (is_computed x) → control_origin x ≡ no_origin
 unfolding control_origin
 control_computed input_node t = absurd t
 control_computed network_node t = absurd t
@@ -102,15 +102,15 @@ control_leaf (delay_node i) gl t = absurd t
 control_leaf (binary_node k a b) gl t = inl tt
 control_leaf (unary_node k a) gl t = inl tt
 
--- a node without an origin has `no_origin_lem`
-pub no_origin_lem : (x : Origin) → has_origin x ≡ false → x ≡ no_origin_lem
-no_origin_lem no_origin_lem h = refl
+-- a node without an origin has `no_origin`
+pub no_origin_lem : (x : Origin) → has_origin x ≡ false → x ≡ no_origin
+no_origin_lem no_origin h = refl
 no_origin_lem (immediate b) h = absurd (false≢true (sym h))
 no_origin_lem (loaded c i) h = absurd (false≢true (sym h))
 
 -- what passes as the load of a code and index is it
 pub is_load_lem : (c i : ℕ) (x : Origin) → T (is_load c i x) → x ≡ loaded c i
-is_load_lem c i no_origin_lem t = absurd t
+is_load_lem c i no_origin t = absurd t
 is_load_lem c i (immediate b) t = absurd t
 is_load_lem c i (loaded d j) t =
     let cd : c ≡ d = eqb→eq c d (and_first (eqb c d) (eqb i j) t) in
@@ -125,7 +125,7 @@ origin_inside (x ∷ xs) (suc n) t = omega (arith, origin_inside xs n t)
 
 -- a load is an origin
 pub load_origin : (c i : ℕ) (x : Origin) → T (is_load c i x) → T (has_origin x)
-load_origin c i no_origin_lem t = absurd t
+load_origin c i no_origin t = absurd t
 load_origin c i (immediate b) t = tt
 load_origin c i (loaded d j) t = tt
 
@@ -158,7 +158,7 @@ canonical_origin ss n h t = go (origin_at ss n) refl
     same x q u = (h, t)
 
     go : (x : Origin) → origin_at ss n ≡ x → (canonical_as ss n x < length ss) × T (has_origin (origin_at ss (canonical_as ss n x)))
-    go no_origin_lem q = absurd (rw q at t)
+    go no_origin q = absurd (rw q at t)
     go (immediate b) q = (h, t)
     go (loaded c i) q =
         let own : T (is_load c i (origin_at ss n)) = rw q (and_both (eqb c c) (eqb i i) (eqb_refl c) (eqb_refl i)) in
@@ -167,6 +167,6 @@ canonical_origin ss n h t = go (origin_at ss n) refl
         rw pm (home_known ss c i f.0 f.1)
 
 -- a computed node is its own
-pub canonical_computed : (ss : List Origin) (n : ℕ) → origin_at ss n ≡ no_origin_lem → canonical ss n ≡ n
+pub canonical_computed : (ss : List Origin) (n : ℕ) → origin_at ss n ≡ no_origin → canonical ss n ≡ n
 unfolding canonical canonical_as
 canonical_computed ss n h = rw h

@@ -7,7 +7,7 @@ use native.Mathlib.Omega.{arith}
 use Rattle.std.proofs.Math.ListN.{get_or, length, length-map, length-replicate}
 use Rattle.std.proofs.Math.Dec.{T, eqb_refl}
 use Rattle.plan.specs.Nodes.{Node, operands, is_computed, node_at, Flow, updates_of, roots}
-use Rattle.plan.specs.Origins.{Origin, no_origin_lem, has_origin, origin_at, control_origin, sample_origin, sample_origins}
+use Rattle.plan.specs.Origins.{Origin, no_origin, has_origin, origin_at, control_origin, sample_origin, sample_origins}
 use Rattle.plan.specs.Schedule.{Write, writes_from, sample_computations}
 use Rattle.plan.specs.Lists.{member, filter, count_up}
 use Rattle.plan.specs.Hoist.{number, hoistable, needed_by, homes_of, control_computations, invariants, mark_all, sweep}
@@ -136,16 +136,16 @@ module _ (b : Flow) (v : GoodFlow b) where
       omega (arith, k.1))
 
   -- a node that the sample phase reaches is a source or one of its computations
-  pub value : (a : ℕ) → a < length ns → T (get_or need a false) → (a < length ss) × (T (has_origin (origin_at ss a)) ⊎ ((origin_at ss a ≡ no_origin_lem) × T (member a comps)))
+  pub value : (a : ℕ) → a < length ns → T (get_or need a false) → (a < length ss) × (T (has_origin (origin_at ss a)) ⊎ ((origin_at ss a ≡ no_origin) × T (member a comps)))
   value a h t = (rw sample_length h, go (has_origin (origin_at ss a)) refl)
     where
-      go : (x : Bool) → has_origin (origin_at ss a) ≡ x → T (has_origin (origin_at ss a)) ⊎ ((origin_at ss a ≡ no_origin_lem) × T (member a comps))
+      go : (x : Bool) → has_origin (origin_at ss a) ≡ x → T (has_origin (origin_at ss a)) ⊎ ((origin_at ss a ≡ no_origin) × T (member a comps))
       go true q = inl (rw q tt)
       go false q = inr (no_origin_lem (origin_at ss a) q, in_comps a h t (rw q tt))
 
   -- the new value of each write is an origin or computed
   pub write_values : (c k : ℕ) (us : List ℕ) → ((n : ℕ) → T (member n (updates_of us)) → (n < length ns) × T (get_or need n false))
-      → AllWrites (λ w. (w.value < length ss) × (T (has_origin (origin_at ss w.value)) ⊎ ((origin_at ss w.value ≡ no_origin_lem) × T (member w.value comps))))
+      → AllWrites (λ w. (w.value < length ss) × (T (has_origin (origin_at ss w.value)) ⊎ ((origin_at ss w.value ≡ no_origin) × T (member w.value comps))))
       (writes_from c k us)
   write_values c k [] h = tt
   write_values c k (zero ∷ us) h = write_values c (suc k) us h
@@ -226,10 +226,10 @@ module _ (b : Flow) (v : GoodFlow b) where
 
   -- what the control phase needs is an origin or computed there
   pub cvalue : (a : ℕ) → a < length ns → T (get_or cneed a false)
-      → (a < length cs) × (T (has_origin (origin_at cs a)) ⊎ ((origin_at cs a ≡ no_origin_lem) × T (member a ccomps)))
+      → (a < length cs) × (T (has_origin (origin_at cs a)) ⊎ ((origin_at cs a ≡ no_origin) × T (member a ccomps)))
   cvalue a h t = let r = inv_leaf ns a h (cneed_inv a t).1 in (rw length-map h, go (control_leaf (node_at ns a) r.0 r.1))
     where
       go : T (is_computed (node_at ns a)) ⊎ T (has_origin (control_origin (node_at ns a)))
-          → T (has_origin (origin_at cs a)) ⊎ ((origin_at cs a ≡ no_origin_lem) × T (member a ccomps))
+          → T (has_origin (origin_at cs a)) ⊎ ((origin_at cs a ≡ no_origin) × T (member a ccomps))
       go (inl u) = inr (control_at ns a h ∙ control_computed (node_at ns a) u, in_ccomps a h t u)
       go (inr u) = inl (rw (control_at ns a h) u)

@@ -16,8 +16,8 @@ use Rattle.plan.specs.declared.Sizes.{Sizes}
 use Rattle.plan.specs.Lists.{member, filter, any_of, count_up}
 use Rattle.plan.specs.TestLaws.{or_first, or_second, and_both, same_test}
 use Rattle.plan.specs.ListLaws.{first_zero, count_up_member}
-use Rattle.plan.specs.Nodes.{operands, node_at_lem}
-use Rattle.plan.specs.Origins.{Origin, no_origin_lem, immediate, loaded, has_origin, is_load, origin_at, home_of, canonical_as, canonical}
+use Rattle.plan.specs.Nodes.{operands, node_at}
+use Rattle.plan.specs.Origins.{Origin, no_origin, immediate, loaded, has_origin, is_load, origin_at, home_of, canonical_as, canonical}
 use Rattle.plan.specs.OriginLaws.{is_load_lem, load_origin, origin_inside, home_finds, home_known, home_origin, no_origin_lem, canonical_origin, canonical_computed}
 use Rattle.plan.specs.Schedule.{Write, waits}
 use Rattle.plan.specs.Layout.{Lent, homes_at}
@@ -236,7 +236,7 @@ unfolding canonical canonical_as
 canonical_same ss n h = go (origin_at ss n) refl
   where
     go : (x : Origin) → origin_at ss n ≡ x → origin_at ss (canonical_as ss n x) ≡ origin_at ss n
-    go no_origin_lem q = refl
+    go no_origin q = refl
     go (immediate b) q = refl
     go (loaded c i) q =
         let f = home_finds ss c i n h (rw q (and_both (eqb c c) (eqb i i) (eqb_refl c) (eqb_refl i))) in
@@ -393,5 +393,5 @@ module _ (sizes : Sizes) (nodes : List ℕ) (origins : List Origin) (table : Lis
       )
       (last_later (sample_in n nodes table) (λ m. any_of (λ a. is_load (x.code - 6) x.index (origin_at origins a)) (operands_in nodes m)) x.value n l
       ∙ last_same (λ m. sample_in n nodes table m && (eqb m x.value || any_of (λ a. is_load (x.code - 6) x.index (origin_at origins a)) (operands_in nodes m)))
-      (λ m. sample_in n nodes table m && (eqb m x.value || any_of (λ a. is_load (x.code - 6) x.index (origin_at origins a)) (operands (node_at_lem (nodes_to nodes n) m)))) n
+      (λ m. sample_in n nodes table m && (eqb m x.value || any_of (λ a. is_load (x.code - 6) x.index (origin_at origins a)) (operands (node_at (nodes_to nodes n) m)))) n
       (λ m below. rw (node_at_lem nodes n m below, operands_in_lem sizes nodes (length table) s.lent m below)))

@@ -11,7 +11,7 @@ use Rattle.expand.specs.Graph.{Graph}
 use Rattle.expand.specs.GraphLaws.{GoodGraph}
 use Rattle.plan.specs.declared.Sizes.{Sizes}
 use Rattle.plan.specs.Lists.{count_up}
-use Rattle.plan.specs.Nodes.{Node, input_node, network_node, constant_node, parameter_node, state_node, delay_node, binary_node, unary_node, operands, is_computed, node_at_lem}
+use Rattle.plan.specs.Nodes.{Node, input_node, network_node, constant_node, parameter_node, state_node, delay_node, binary_node, unary_node, operands, is_computed, node_at}
 use Rattle.plan.specs.Flow.{node_in}
 use Rattle.plan.specs.Hoist.{invariant_node, hoistable}
 use Rattle.plan.specs.FlowLaws.{IsNode, node_is, flow_at}
@@ -30,7 +30,7 @@ pub nodes_length : (nodes : List ℕ) (n : ℕ) → length (nodes_to nodes n) �
 nodes_length nodes n = length-map (count_up 0 n) (node_in nodes) ∙ count_up_length 0 n
 
 -- node k of them
-pub node_at_lem : (nodes : List ℕ) (n k : ℕ) → k < n → node_at_lem (nodes_to nodes n) k ≡ node_in nodes k
+pub node_at_lem : (nodes : List ℕ) (n k : ℕ) → k < n → node_at (nodes_to nodes n) k ≡ node_in nodes k
 node_at_lem nodes n k h = let z : 0 + k ≡ k = omega arith in rw z at (map_at (node_in nodes) 0 n k input_node h)
 
 -- ---- a good node's words

@@ -20,7 +20,7 @@ use Rattle.house.specs.Frame.{graph_kind, step_kind, block_count, block_word, ki
 use Rattle.house.specs.Payload.{rendering_in, samples_at}
 use Rattle.house.specs.Read.{read_rendering_answer}
 use Rattle.stream.specs.declared.Framed.{Framed}
-use Rattle.stream.specs.Stream.{fault_of, framed_of, first_kind, short_before, last_bad, last_answer, next_fault, one_more_lem, answer_in, payload_words, rendering_frame, rendering_answer_in}
+use Rattle.stream.specs.Stream.{fault_of, framed_of, first_kind, short_before, last_bad, last_answer, next_fault, one_more, answer_in, payload_words, rendering_frame, rendering_answer_in}
 
 -- ---- answers
 
@@ -204,8 +204,8 @@ module _ (low high n : ℕ) (bytes block : List ℕ) (l : length bytes ≡ 512 *
       (fault_then (in_order (block_answer low high bytes) n) _ (told_order (block_answer low high bytes) (told_block low high bytes) n))
 
   -- ONE BLOCK MORE
-  pub one_more_lem : framed_of low high (bytes ++ block) ≡ one_more_lem low high (framed_of low high bytes) block
-  unfolding framed_of one_more_lem first_kind
+  pub one_more_lem : framed_of low high (bytes ++ block) ≡ one_more low high (framed_of low high bytes) block
+  unfolding framed_of one_more first_kind
   one_more_lem =
       let z : suc n - 1 ≡ n = omega arith in
       let k : kind_in (bytes ++ block) 0 ≡ first_kind (framed_of low high bytes) block = rw count_before first_is in
@@ -220,8 +220,8 @@ none_is low high = refl
 
 -- what the code leaves, of the bytes that what it was given is of
 pub next_is : (low high : ℕ) (framed : Framed) (bytes block : List ℕ) → length block ≡ 512 → length bytes ≡ 512 * framed.blocks → framed ≡ framed_of low high bytes
-    → one_more_lem low high framed block ≡ framed_of low high (bytes ++ block)
-next_is low high framed bytes block s l e = ap (λ (x : Framed). one_more_lem low high x block) e ∙ sym (one_more_lem low high framed.blocks bytes block l s)
+    → one_more low high framed block ≡ framed_of low high (bytes ++ block)
+next_is low high framed bytes block s l e = ap (λ (x : Framed). one_more low high x block) e ∙ sym (one_more_lem low high framed.blocks bytes block l s)
 
 -- ---- THE ANSWER AT THE END, with less than a block behind the whole ones
 empty_is : (l : List ℕ) → length l ≡ 0 → l ≡ []

@@ -1,0 +1,30 @@
+-- `computed_class`: each arm finds the class of its instruction's node. Assumes nothing.
+use borrow.Author.Rules.{rules}
+use Rattle.checker.proofs.moves.computed_class.Goals as goal
+
+pub returns-in-Immediate : goal.returns-in-Immediate
+returns-in-Immediate c = simp (c.lookup.ensures, c.in-Immediate.is)
+
+pub returns-in-Add : goal.returns-in-Add
+returns-in-Add c = simp (c.result_of_two.ensures, c.in-Add.is)
+
+pub returns-in-Sub : goal.returns-in-Sub
+returns-in-Sub c = simp (c.result_of_two-in-Sub.ensures, c.in-Sub.is)
+
+pub returns-in-Mul : goal.returns-in-Mul
+returns-in-Mul c = simp (c.result_of_two-in-Mul.ensures, c.in-Mul.is)
+
+pub returns-in-Min : goal.returns-in-Min
+returns-in-Min c = simp (c.result_of_two-in-Min.ensures, c.in-Min.is)
+
+pub returns-in-Max : goal.returns-in-Max
+returns-in-Max c = simp (c.result_of_two-in-Max.ensures, c.in-Max.is)
+
+pub returns-in-Neg : goal.returns-in-Neg
+returns-in-Neg c = simp (c.result_of_one.ensures, c.in-Neg.is)
+
+pub returns-in-Abs : goal.returns-in-Abs
+returns-in-Abs c = simp (c.result_of_one-in-Abs.ensures, c.in-Abs.is)
+
+pub returns-in-IntegerSub : goal.returns-in-IntegerSub
+returns-in-IntegerSub c = simp (c.result_of_two-in-IntegerSub.ensures, c.in-IntegerSub.is)
