@@ -68,7 +68,7 @@ module _ {n : Counts} {g : Graph} (good : GoodGraph n g) (x : Given) (start : Me
       rw (h i p) (sym (find_value good x start c i 0 k f ∙ law i 0))
 
   -- ---- an instruction's result has the class that the checker finds
-  result_says : (h : Held) (r : List ℕ) (i : Instruction) → File (value_at g x start) h.registers r → Says (value_at g x start) (computed_class g h i) (result r i)
+  result_says : (h : Held) (r : List ℕ) (i : Instruction) → File (value_at g x start) h.registers r → Says (value_at g x start) (computed_class g h i) (result_of r i)
   result_says h r (Immediate dst v) f = found 1 v v (value_constant _ _ _ _ _ _)
   result_says h r (Add dst a b) f = two 5 added (value_add _ _ _ _) _ _ _ _ (file_get _ f a) (file_get _ f b)
   result_says h r (Sub dst a b) f = two 6 subtracted (value_sub _ _ _ _) _ _ _ _ (file_get _ f a) (file_get _ f b)

@@ -134,7 +134,8 @@ pub fn run_instruction(registers: &mut Registers, word: u32, immediate: u32) -> 
 {
     let words = registers.words;
     let done = executed(words, word, immediate);
-    registers.words = done.words;
+    let next = done.words;
+    registers.words = next;
     done.answer
 }
 
@@ -144,8 +145,6 @@ pub fn run_on(registers: [u32; 16], word: u32, immediate: u32) -> Outcome
 {
     let mut lent = Registers { words: registers };
     let answer = run_instruction(&mut lent, word, immediate);
-    Outcome {
-        answer,
-        words: lent.words,
-    }
+    let words = lent.words;
+    Outcome { answer, words }
 }

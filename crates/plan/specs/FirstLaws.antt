@@ -1,7 +1,7 @@
 -- Finding the first nodes of the sources leaves the definition's lists: `canonical_firsts`, and every other word as it was: `canonical_beside`. Assumes nothing.
 use Rattle.std.specs.Prelude.{◌≡◌, ◌⊎◌, Bool, true, false, cond, ◌&&◌, set, ltb}
 use Rattle.std.proofs.Math.Path.{refl, sym, ap}
-use Rattle.std.proofs.Common.{◌∙◌, inl, inr, length-set, get_or-set_same, get_or-set_other}
+use Rattle.std.proofs.Common.{subst, ◌∙◌, add-one, inl, inr, length-set, get_or-set_same, get_or-set_other}
 use mathlib.Core.List.{List, [], ◌∷◌, ◌++◌, map}
 use Prim.Native.Nat.{ℕ, zero, suc, pred, ◌+◌, ◌-◌, ◌*◌, ◌≤◌, ◌<◌}
 use native.Mathlib.Omega.{arith}
@@ -99,6 +99,15 @@ placed places k n = eqb (places n) (suc k)
 abbrev first_word : (ℕ → ℕ) → ℕ → ℕ
 first_word places n = cond (eqb (places n) 0) n (first_to (placed places (places n - 1)) (suc n) - 1)
 
+-- at a node that has a place: one less than what is found there
+first_word_at : (places : ℕ → ℕ) (n p x : ℕ) → places n ≡ suc p → first_to (placed places p) (suc n) ≡ x → first_word places n ≡ x - 1
+first_word_at places n p x e f =
+    let told = λ (w : ℕ). cond (eqb w 0) n (first_to (placed places (w - 1)) (suc n) - 1) in
+    let y : suc p - 1 ≡ p = omega arith in
+    ap told e
+    ∙ (cond_false (eqb (suc p) 0) n (first_to (placed places (suc p - 1)) (suc n) - 1) (ne_eqb (suc p) 0 (λ (q : suc p ≡ 0). omega arith))
+    ∙ (ap (λ (w : ℕ). first_to (placed places w) (suc n) - 1) y ∙ ap (λ (w : ℕ). w - 1) f))
+
 -- after the turns of the first i nodes: each home is the first of them with its place, their words are right, and all others are as they were
 record Turned (sizes : Sizes) (codes places : ℕ → ℕ) (table : List ℕ) (i : ℕ) (work : List ℕ) : Type 0 where
   size : length work ≡ length table
@@ -143,7 +152,9 @@ module _ (sizes : Sizes) (codes places : ℕ → ℕ) (table : List ℕ) (room :
       }
     where
       firsts : (k : ℕ) → k < suc i → Dec (k ≡ i) → get_or (set x (4 * sizes.nodes + i) v) (4 * sizes.nodes + k) 0 ≡ first_word places k
-      firsts k h (yes z) = rw z (get_or-set_same x (4 * sizes.nodes + i) v 0 (omega (arith, size, t.size)) ∙ first)
+      firsts k h (yes z) =
+          subst (λ (q : ℕ). get_or (set x (4 * sizes.nodes + i) v) (4 * sizes.nodes + q) 0 ≡ first_word places q) (sym z)
+          (get_or-set_same x (4 * sizes.nodes + i) v 0 (omega (arith, size, t.size)) ∙ first)
       firsts k h (no z) =
           get_or-set_other x (4 * sizes.nodes + i) (4 * sizes.nodes + k) v 0 (λ e. omega arith)
           ∙ (others (4 * sizes.nodes + k) (λ e. omega arith) (inl (omega arith)) ∙ t.canonicals k (omega arith))
@@ -183,7 +194,7 @@ module _ (sizes : Sizes) (codes places : ℕ → ℕ) (table : List ℕ) (room :
       (get_or-set_other marked (homes_at sizes + p) (8 * sizes.nodes + i) (i + 1) 0 (λ q. omega arith) ∙ marked_fresh)
       (λ k h. home k h (ℕ_discrete k p))
       (λ j h b. get_or-set_other marked (homes_at sizes + p) j (i + 1) 0 (off j b) ∙ marked_other j h)
-      (let y : suc p - 1 ≡ p = omega arith in rw (e, ne_eqb (suc p) 0 (λ (q : suc p ≡ 0). omega arith), y, found) (omega arith))
+      (let last : suc i - 1 ≡ i = omega arith in sym (first_word_at places i p (suc i) e found ∙ last))
     where
       found : first_to (placed places p) (suc i) ≡ suc i
       found = first_next (placed places p) i ∙ rw (z, e, eq-eqb (suc p) (suc p) refl)
@@ -191,7 +202,8 @@ module _ (sizes : Sizes) (codes places : ℕ → ℕ) (table : List ℕ) (room :
       home : (k : ℕ) → k < 258 + sizes.states + sizes.delays → Dec (k ≡ p)
           → get_or (set marked (homes_at sizes + p) (i + 1)) (homes_at sizes + k) 0 ≡ first_to (placed places k) (suc i)
       home k h (yes q) =
-          rw q (get_or-set_same marked (homes_at sizes + p) (i + 1) 0 (omega (arith, marked_size, t.size)) ∙ (omega (arith, found)))
+          subst (λ (r : ℕ). get_or (set marked (homes_at sizes + p) (i + 1)) (homes_at sizes + r) 0 ≡ first_to (placed places r) (suc i)) (sym q)
+          (get_or-set_same marked (homes_at sizes + p) (i + 1) 0 (omega (arith, marked_size, t.size)) ∙ (add-one i ∙ sym found))
       home k h (no q) =
           get_or-set_other marked (homes_at sizes + p) (homes_at sizes + k) (i + 1) 0 (λ y. omega arith)
           ∙ (marked_home k h ∙ sym (other_place k (λ y. omega arith)))
@@ -209,13 +221,12 @@ module _ (sizes : Sizes) (codes places : ℕ → ℕ) (table : List ℕ) (room :
           → Turned sizes codes places table (suc i) (cond (eqb x 0) (set (set marked (homes_at sizes + p) (i + 1)) (4 * sizes.nodes + i) i) (set marked (4 * sizes.nodes + i) (x - 1)))
       again p zero e q = turned_first p e q
       again p (suc m) e q =
-          let y : suc p - 1 ≡ p = omega arith in
-          let z : suc p ≡ 0 → ⊥ = λ (u : suc p ≡ 0). omega arith in
           rw (ne_eqb (suc m) 0 (λ (u : suc m ≡ 0). omega arith))
-          (turned_same (suc m - 1) (λ k h. keep k (ℕ_discrete k p)) (rw (e, ne_eqb (suc p) 0 z, y, first_stays (placed places p) i m q)))
+          (turned_same (suc m - 1) (λ k h. keep k (ℕ_discrete k p)) (sym (first_word_at places i p (suc m) e (first_stays (placed places p) i m q))))
         where
           keep : (k : ℕ) → Dec (k ≡ p) → first_to (placed places k) (suc i) ≡ first_to (placed places k) i
-          keep k (yes u) = rw u (first_stays (placed places p) i m q ∙ sym q)
+          keep k (yes u) =
+              subst (λ (r : ℕ). first_to (placed places r) (suc i) ≡ first_to (placed places r) i) (sym u) (first_stays (placed places p) i m q ∙ sym q)
           keep k (no u) = other_place k (λ y. omega arith)
 
       go : (p : ℕ) → places i ≡ p
@@ -441,8 +452,7 @@ module _ (sizes : Sizes) (control : Bool) (nodes table : List ℕ) (lent : Lent 
         shared c i (suc p) q l e =
             let here : places k ≡ suc p = place_at k h ∙ (ap (origin_place sizes.states) q ∙ e) in
             let f = first_all (placed places p) k sizes.nodes h (eq-eqb (places k) (suc p) here) in
-            let y : suc p - 1 ≡ p = omega arith in
-            rw (here, ne_eqb (suc p) 0 (λ (u : suc p ≡ 0). omega arith), y, f, place_first c i p l e) (less (home_of origins c i))
+            first_word_at places k p (home_of origins c i) here (f ∙ place_first c i p l e) ∙ less (home_of origins c i)
           where
             less : (x : ℕ) → x - 1 ≡ pred x
             less zero = refl

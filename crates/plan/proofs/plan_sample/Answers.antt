@@ -5,13 +5,13 @@ use borrow.Author.Rules.{rules}
 use Rattle.plan.proofs.plan_sample.Goals as goal
 
 pub last_reads-requires : goal.last_reads-requires
-last_reads-requires c = (rw c.canonical.auto.1.0 c.requires.0, share_canonicals c.args.sizes c.args.nodes.now c.args.updates.now c.args.stores.now c.args.output c.args.work.now c.requires.0 c.requires.1 c.requires.2 c.requires.3 c.requires.4 c.requires.6 c.canonical.new.1.0 c.canonical.ensures)
+last_reads-requires c = (rw c.canonical.auto.work c.requires.0, share_canonicals c.args.sizes c.args.nodes.now c.args.updates.now c.args.stores.now c.args.output c.args.work.now c.requires.0 c.requires.1 c.requires.2 c.requires.3 c.requires.4 c.requires.6 c.canonical.new.work c.canonical.ensures)
 
 pub chain_writes-requires : goal.chain_writes-requires
-chain_writes-requires c = (rw (c.last_reads.auto.1.0 ∙ c.canonical.auto.1.0) c.requires.0, share_reading c.args.sizes c.args.nodes.now c.args.updates.now c.args.stores.now c.args.output c.args.work.now c.requires.0 c.requires.1 c.requires.2 c.requires.3 c.requires.4 c.requires.6 c.canonical.new.1.0 c.canonical.ensures c.last_reads.new.1.0 c.last_reads.ensures, share_updates c.args.sizes c.args.nodes.now c.args.updates.now c.args.stores.now c.args.output c.args.work.now c.requires.0 c.requires.1 c.requires.2 c.requires.3 c.requires.4 c.requires.6, c.requires.3, c.requires.4)
+chain_writes-requires c = (rw (c.last_reads.auto.work ∙ c.canonical.auto.work) c.requires.0, share_reading c.args.sizes c.args.nodes.now c.args.updates.now c.args.stores.now c.args.output c.args.work.now c.requires.0 c.requires.1 c.requires.2 c.requires.3 c.requires.4 c.requires.6 c.canonical.new.work c.canonical.ensures c.last_reads.new.work c.last_reads.ensures, share_updates c.args.sizes c.args.nodes.now c.args.updates.now c.args.stores.now c.args.output c.args.work.now c.requires.0 c.requires.1 c.requires.2 c.requires.3 c.requires.4 c.requires.6, c.requires.3, c.requires.4)
 
 pub sample_tasks-requires : goal.sample_tasks-requires
-sample_tasks-requires c = let s = share_chained c.args.sizes c.args.nodes.now c.args.updates.now c.args.stores.now c.args.output c.args.work.now c.requires.0 c.requires.1 c.requires.2 c.requires.3 c.requires.4 c.requires.6 c.canonical.new.1.0 c.canonical.ensures c.last_reads.new.1.0 c.last_reads.ensures c.chain_writes.new.1.1.1.0 c.chain_writes.ensures in (rw (c.chain_writes.auto.1.1.1.0 ∙ (c.last_reads.auto.1.0 ∙ c.canonical.auto.1.0)) c.requires.0, s.0, s.1)
+sample_tasks-requires c = let s = share_chained c.args.sizes c.args.nodes.now c.args.updates.now c.args.stores.now c.args.output c.args.work.now c.requires.0 c.requires.1 c.requires.2 c.requires.3 c.requires.4 c.requires.6 c.canonical.new.work c.canonical.ensures c.last_reads.new.work c.last_reads.ensures c.chain_writes.new.work c.chain_writes.ensures in (rw (c.chain_writes.auto.work ∙ (c.last_reads.auto.work ∙ c.canonical.auto.work)) c.requires.0, s.0, s.1)
 
 pub returns : goal.returns
-returns c = sample_share c.args.sizes c.args.nodes.now c.args.updates.now c.args.stores.now c.args.output c.args.work.now c.requires.0 c.requires.1 c.requires.2 c.requires.3 c.requires.4 c.requires.6 c.canonical.new.1.0 c.canonical.ensures c.last_reads.new.1.0 c.last_reads.ensures c.chain_writes.new.1.1.1.0 c.chain_writes.ensures c.sample_tasks.result c.sample_tasks.new.1.0 c.sample_tasks.ensures
+returns c = sample_share c.args.sizes c.args.nodes.now c.args.updates.now c.args.stores.now c.args.output c.args.work.now c.requires.0 c.requires.1 c.requires.2 c.requires.3 c.requires.4 c.requires.6 c.canonical.new.work c.canonical.ensures c.last_reads.new.work c.last_reads.ensures c.chain_writes.new.work c.chain_writes.ensures c.sample_tasks.result c.sample_tasks.new.work c.sample_tasks.ensures

@@ -10,9 +10,6 @@ network_word-heard-requires c = c.requires.1.1.sent
 pub run_steps-next-requires : goal.run_steps-next-requires
 run_steps-next-requires c = (c.requires.0, rw (c.place-first.ensures, c.place-count.ensures) c.requires.1.0)
 
-pub offset_bounds-output-t : goal.offset_bounds-output-t
-offset_bounds-output-t c = let h = c.well-formed.1.1.1.1.1.1.1.1.1.1.1.1.1.1.1.1.0 in omega (arith, h.0, h.1, c.requires.1.1.written)
-
 pub bounds-output-t : goal.bounds-output-t
 bounds-output-t c = c.requires.1.1.written
 

@@ -1,0 +1,6 @@
+-- `short_work`: the one test of the definition. Assumes nothing.
+use borrow.Author.Rules.{rules}
+use Rattle.agree.proofs.short_work.Goals as goal
+
+pub returns : goal.returns
+returns c = rw (c.place-slots.ensures, c.place-spills.ensures)

@@ -1,3 +1,0 @@
--- What the walks of host share.
-pub mod Lent
-pub mod Words

@@ -1,0 +1,9 @@
+-- `execute`: the result is put at the destination. Assumes nothing.
+use mathlib.Core.Path.{◌∙◌}
+use borrow.Author.Rules.{rules}
+use Rattle.machine.specs.Machine.{execute}
+use Rattle.host.proofs.execute.Goals as goal
+
+pub returns : goal.returns
+unfolding execute
+returns c = c.put.ensures ∙ rw (c.destination.ensures, c.result-value.ensures)
