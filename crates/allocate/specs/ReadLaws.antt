@@ -1,5 +1,5 @@
 -- An operation's reads are fetched, what dies is released, the result has a register. Assumes nothing.
-use Rattle.std.proofs.Common.{◌∙◌, set-set, eqb→eq}
+use Rattle.std.proofs.Common.{sym, subst, ◌∙◌, set-set, eqb→eq}
 use Rattle.std.specs.Prelude.{◌≡◌, ◌≢◌, ◌⊎◌, Bool, ◌||◌, not, set, eqb}
 use Rattle.std.proofs.Math.Path.{refl}
 use Rattle.std.proofs.Math.Logic.{inl, inr}
@@ -102,7 +102,7 @@ module _ (e : Setting) (home : List ℕ) (wf : Sixteen e) where
           }
         where
           pick₂ : (m q : ℕ) → (m ≡ n) ⊎ (register_of s m ≡ suc q) → T (member m (n ∷ ns)) ⊎ (register_of s m ≡ suc q)
-          pick₂ m q (inl z) = inl (rw z (or_first (eqb n n) (member n ns) (eqb_refl n)))
+          pick₂ m q (inl z) = inl (subst (λ (j : ℕ). T (member j (n ∷ ns))) (sym z) (or_first (eqb n n) (member n ns) (eqb_refl n)))
           pick₂ m q (inr z) = inr z
 
           pick : (m q : ℕ) → T (member m ns) ⊎ (register_of t.state m ≡ suc q) → T (member m (n ∷ ns)) ⊎ (register_of s m ≡ suc q)

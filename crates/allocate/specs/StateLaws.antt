@@ -1,5 +1,5 @@
 -- What the allocator's small changes do to its state. Assumes nothing.
-use Rattle.std.proofs.Common.{◌∙◌, inl, inr, arith, length-append, get_or-set_other, get_or-set_same, eqb→eq}
+use Rattle.std.proofs.Common.{subst, ◌∙◌, inl, inr, arith, length-append, get_or-set_other, get_or-set_same, eqb→eq}
 use Rattle.std.specs.Prelude.{◌≡◌, ◌≢◌, ◌⊎◌, Bool, ◌||◌, false, not, true, get_or, set, T, eqb}
 use Rattle.std.proofs.Math.Path.{refl}
 use mathlib.Core.List.{List, [], ◌∷◌}
@@ -98,7 +98,7 @@ count_inside k (y ∷ ys) (x ∷ xs) a h = go (ℕ_discrete y k) x refl (λ b f.
     Found l = (r n : ℕ) → get_or xs r 0 ≡ suc n → T (member (suc k + r) l)
 
     later : Found (y ∷ ys)
-    later r n q = let z : k + suc r ≡ suc k + r = omega arith in rw z at (h (suc r) n q)
+    later r n q = let z : k + suc r ≡ suc k + r = omega arith in subst (λ (m : ℕ). T (member m (y ∷ ys))) z (h (suc r) n q)
 
     -- what is not y is behind it
     behind : y ≡ k → (r : ℕ) → T (eqb (suc k + r) y) ⊎ T (member (suc k + r) ys) → T (member (suc k + r) ys)
@@ -116,7 +116,7 @@ count_inside k (y ∷ ys) (x ∷ xs) a h = go (ℕ_discrete y k) x refl (λ b f.
     go (no e) zero q f g = g (omega (arith, a.0), a.1) later
     go (no e) (suc w) q f g =
         let z : k + 0 ≡ k = omega arith in
-        absurd (omega (arith, ascending_ge y (y ∷ ys) k (omega arith, a.1) (rw z at (h 0 w q)), a.0))
+        absurd (omega (arith, ascending_ge y (y ∷ ys) k (omega arith, a.1) (subst (λ (m : ℕ). T (member m (y ∷ ys))) z (h 0 w q)), a.0))
 
 owners_count : (registers owner : List ℕ) → Ascending 0 registers → ((r n : ℕ) → get_or owner r 0 ≡ suc n → T (member r registers)) → count owner ≤ length registers
 owners_count registers owner a h = count_inside 0 registers owner a (λ r n q. let z : 0 + r ≡ r = omega arith in rw z (h r n q))

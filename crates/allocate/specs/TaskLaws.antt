@@ -1,6 +1,6 @@
 -- The allocator's invariant between tasks, and how many steps a task emits. Assumes nothing.
 use Rattle.std.specs.Prelude.{◌≡◌, ◌⊎◌, Bool, ◌&&◌, ◌||◌, false, true, get_or, set, eqb}
-use Rattle.std.proofs.Common.{ap, sym, inl, inr, arith, get_or-set_other, eqb→eq}
+use Rattle.std.proofs.Common.{subst, ap, sym, inl, inr, arith, get_or-set_other, eqb→eq}
 use Rattle.std.proofs.Math.Path.{refl}
 use Rattle.std.proofs.Math.Bool.{not}
 use mathlib.Core.List.{List, [], ◌∷◌}
@@ -149,7 +149,7 @@ module _ (e : Setting) (home : List ℕ) (wf : Sixteen e) (done : List ℕ) (res
           ready m y (inr z) hot go = go (i.ready m (or_second (member m reads) (read_later rest m) y) z)
 
           heldk : (m q : ℕ) → (m ≡ n) ⊎ (register_of g.state m ≡ suc q) → T (known e (n ∷ done) m)
-          heldk m q (inl z) = rw z (known_here e n done)
+          heldk m q (inl z) = subst (λ (j : ℕ). T (known e (n ∷ done) j)) (sym z) (known_here e n done)
           heldk m q (inr z) = known_skip e n done m (fetched_known reads s g i rd f m q z)
 
   -- the hoisted value v's own slot now holds it

@@ -1,0 +1,12 @@
+-- `reload_code`: both phases. Assumes nothing.
+use native.Mathlib.Omega.{arith}
+use Rattle.allocate.specs.Desk.{reload_code}
+use Rattle.allocate.proofs.fetch.reload_code.Goals as goal
+
+pub returns-then-frame : goal.returns-then-frame
+unfolding reload_code
+returns-then-frame c = (simp c.if-frame.true, omega arith)
+
+pub returns : goal.returns
+unfolding reload_code
+returns c = (simp c.if-frame.false, omega arith)

@@ -1,0 +1,12 @@
+use mathlib.Core.Path.{◌≡◌, refl, sym, ◌∙◌}
+use native.Mathlib.Omega.{arith}
+use Prim.Native.Nat.{◌-◌, ◌≤◌}
+use Rattle.allocate.specs.Registers.{free_from, free_hit, free_miss, free_end}
+use borrow.Author.Rules.{rules}
+use Rattle.allocate.proofs.registers.free_register.Given as goal
+
+abbrev pub invariant-loop-r : goal.invariant-loop-r
+invariant-loop-r l = (l.r ≤ 16) × (free_from 16 0 l.owner l.mask ≡ free_from (16 - l.r) l.r l.owner l.mask)
+
+abbrev pub decreases-loop-r : goal.decreases-loop-r
+decreases-loop-r l = 16 - l.r
