@@ -1,0 +1,8 @@
+-- `counted`: the counts are words. Assumes nothing.
+use Rattle.compile.specs.Phases.{counted_of}
+use borrow.Author.Rules.{rules}
+use Rattle.compile.proofs.phases.counted.Goals as goal
+
+pub returns : goal.returns
+unfolding counted_of
+returns c = rw c.larger-registers.ensures

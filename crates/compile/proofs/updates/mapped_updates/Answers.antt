@@ -1,0 +1,21 @@
+-- `mapped_updates`: before turn i the first i words are the mapped updates. Assumes nothing.
+use mathlib.Core.List.{[]}
+use Rattle.compile.specs.Updates.{list_start, list_next, mapped_end}
+use Rattle.tables.specs.Lists.{list_of}
+use lib.ListN.{length, take, length-set}
+use Rattle.compile.specs.Updates.{mapped_word}
+use Rattle.tables.specs.Zeros.{zeros_length}
+use mathlib.Core.Path.{◌≡◌}
+use Prim.Native.Nat.{◌-◌, ◌≤◌}
+use native.Mathlib.Omega.{arith}
+use borrow.Author.Rules.{rules}
+use Rattle.compile.proofs.updates.mapped_updates.Goals as goal
+
+pub loop-i-init : goal.loop-i-init
+loop-i-init c = (omega arith, zeros_length 4096, list_start _ [])
+
+pub loop-i-preserved : goal.loop-i-preserved
+loop-i-preserved c = (omega arith, simp length-set c.loop-i.invariant.1, list_next _ _ _ _ (omega (arith, c.loop-i.invariant.1, c.requires.few)) c.loop-i.invariant.2 c.mapped_update.ensures)
+
+pub returns : goal.returns
+returns c = mapped_end _ _ _ c.loop-i.i (omega arith) c.loop-i.invariant.2
