@@ -1,0 +1,11 @@
+-- `cross`: a valid verdict is 0 and leaves the lent words, a refusal is written out by `refuse`.
+use borrow.Author.Rules.{rules}
+use mathlib.Core.Path.{refl}
+use Rattle.capi.specs.Crossing.{verdict_crosses}
+use Rattle.capi.proofs.runs.cross.Goals as goal
+
+pub returns-in-Valid : goal.returns-in-Valid
+returns-in-Valid c = verdict_crosses _ _ _ _ _ refl c.in-Valid.is refl
+
+pub returns-in-Refused : goal.returns-in-Refused
+returns-in-Refused c = verdict_crosses _ _ _ _ _ refl c.in-Refused.is c.refuse.ensures
