@@ -2,15 +2,12 @@
 use Rattle.std.specs.Prelude.{Bool, true, false, List, ℕ, zero, suc, ◌+◌, get_or, set, replicate, eqb}
 use Rattle.tables.specs.Tests.{◌&◌}
 use Rattle.kernel.specs.declared.Source.{Source}
-use Rattle.kernel.specs.declared.Source.TheVariants as Source
 use Rattle.kernel.specs.declared.Step.{Step}
 use Rattle.kernel.specs.declared.Step.TheVariants.{Load, Compute, Spill, Reload, StoreState, StoreDelay, StoreOutput, StoreControl}
 use Rattle.kernel.specs.declared.StepWords.{StepWords}
-use Rattle.kernel.specs.declared.StepWords.TheVariants as StepWords
 use Rattle.kernel.specs.declared.Instruction.{Instruction}
 use Rattle.kernel.specs.declared.Instruction.TheVariants.{Immediate, Add, Sub, Mul, Min, Max, Neg, Abs, IntegerSub}
 use Rattle.kernel.specs.declared.InstructionWords.{InstructionWords}
-use Rattle.kernel.specs.declared.InstructionWords.TheVariants as InstructionWords
 use Rattle.kernel.specs.declared.Kernel.{Kernel}
 use Rattle.kernel.specs.Steps.{step_at}
 use Rattle.kernel.specs.Instructions.{destination, instruction_at}

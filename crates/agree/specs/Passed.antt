@@ -11,7 +11,6 @@ use Rattle.answers.specs.Order.{in_order}
 use Rattle.answers.specs.OrderLaws.{then_accepted, refuse_at_accepted, in_order_accepted}
 use Rattle.kernel.specs.declared.Step.{Step}
 use Rattle.kernel.specs.declared.StepWords.{StepWords}
-use Rattle.kernel.specs.declared.StepWords.TheVariants as StepWords
 use Rattle.kernel.specs.declared.Phase.{Phase}
 use Rattle.kernel.specs.declared.Phase.TheVariants.{Control, Sample}
 use Rattle.kernel.specs.Steps.{step_at, allowed_in}

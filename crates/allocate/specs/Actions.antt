@@ -1,7 +1,6 @@
 -- What the allocator emits: a step with its instruction in place of its number. Definitions alone.
 use Rattle.std.specs.Prelude.{cond, ℕ, eqb}
 use Rattle.kernel.specs.declared.Source.{Source}
-use Rattle.kernel.specs.declared.Source.TheVariants as Source
 use Rattle.kernel.specs.declared.Instruction.{Instruction}
 use Rattle.kernel.specs.declared.Instruction.TheVariants.{Immediate, Add, Sub, Mul, Min, Max, Neg, Abs, IntegerSub}
 

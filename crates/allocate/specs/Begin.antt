@@ -7,7 +7,6 @@ use Rattle.tables.specs.Zeros.{zeros_at}
 use Rattle.plan.specs.Origins.{Origin, no_origin, has_origin, origin_at}
 use Rattle.plan.specs.Lists.{is_some}
 use Rattle.plan.specs.TestLaws.{or_second}
-use Rattle.plan.specs.Planned.{slots}
 use Rattle.allocate.specs.State.{Setting, begin}
 use Rattle.allocate.specs.StateLaws.{Good}
 use Rattle.allocate.specs.TaskLaws.{Invariant}

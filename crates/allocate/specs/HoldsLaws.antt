@@ -13,7 +13,6 @@ use Rattle.std.proofs.Math.Dec.{eqb-suc-zero}
 use Rattle.tables.specs.Stores.{sets_append}
 use Rattle.plan.specs.Lists.{count, is_some}
 use Rattle.kernel.specs.declared.Source.{Source}
-use Rattle.kernel.specs.declared.Source.TheVariants as Source
 use Rattle.kernel.specs.declared.Instruction.{Instruction}
 use Rattle.kernel.specs.Steps.{step_word, step_index, source_code, source_index}
 use Rattle.allocate.specs.declared.Frame.{Frame}

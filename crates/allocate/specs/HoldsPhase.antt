@@ -7,7 +7,6 @@ use Rattle.std.proofs.Math.Decide.{ℕ_discrete}
 use Rattle.std.proofs.Math.ListN.{length-map}
 use Rattle.std.proofs.lemmas.List.Edits.{sets-eq}
 use Rattle.tables.specs.Parts.{part}
-use Rattle.block.specs.Block.{code}
 use Rattle.plan.specs.Origins as Origins
 use Rattle.plan.specs.OriginLaws.{home_known}
 use Rattle.plan.specs.Schedule.{Task, compute_task, keep_task, store_task, task_reads}

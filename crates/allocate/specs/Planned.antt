@@ -1,5 +1,5 @@
 -- What the plan's regions hold, as the allocator asks for it, and that the allocator leaves it so. The second layer. Assumes nothing.
-use Rattle.std.specs.Prelude.{◌≡◌, ◌⊎◌, cond, List, ℕ, ◌+◌, ◌*◌, ◌-◌, ◌≤◌, ◌<◌, length, get_or, ltb}
+use Rattle.std.specs.Prelude.{◌≡◌, ◌⊎◌, cond, List, ℕ, ◌+◌, ◌*◌, ◌≤◌, ◌<◌, length, get_or, ltb}
 use Rattle.std.proofs.Common.{sym, ◌∙◌, inl, inr, arith, ltb-true, ltb-false}
 use Rattle.tables.specs.Tests.{cond_pred}
 use Rattle.block.specs.Block.{code, first, second}

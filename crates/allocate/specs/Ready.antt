@@ -17,7 +17,7 @@ use Rattle.allocate.specs.declared.Slot.{Slot}
 use Rattle.allocate.specs.declared.Access.{Access}
 use Rattle.allocate.specs.Layout.{Wide, slot_at, next_at, holder_at, spilled_at, fresh_at, freed_at}
 use Rattle.allocate.specs.Registers.{Owners, free_from, victim_of, reloads, victim_le}
-use Rattle.allocate.specs.Desk.{Desk, desk, Choice, store, emitted, operated, next_slot, spilt, settled, evicted, taken, taken_from, control_supply, sample_supply, supply_of, reload_code, brought, loaded, filled, fetched, dropped_register, dropped_slot, released, released_if, released_both}
+use Rattle.allocate.specs.Desk.{Desk, Choice, store, emitted, operated, next_slot, spilt, settled, evicted, taken, taken_from, control_supply, sample_supply, supply_of, reload_code, brought, loaded, filled, fetched, dropped_register, dropped_slot, released, released_if, released_both}
 
 -- ---- the slots that nodes have of their own: those above the fixed ones
 

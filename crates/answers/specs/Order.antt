@@ -1,5 +1,5 @@
 -- How definitions put answers in order: "The lowest number wins", "the first bad record". Definitions alone.
-use Rattle.std.specs.Prelude.{Bool, true, false, cond, List, [], ◌∷◌, ℕ, zero, suc}
+use Rattle.std.specs.Prelude.{Bool, true, false, [], ◌∷◌, ℕ, zero, suc}
 use Rattle.answers.specs.Numbers.{Answer, accepted, refused}
 
 -- the first refusal, else what comes after it. It stays shut, so that its two parts can be read off a fact

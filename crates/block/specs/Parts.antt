@@ -1,5 +1,5 @@
 -- How the code cuts validation: the counts as three numbers, what 6 leaves, and the turns of the scanning loops.
-use Rattle.std.specs.Prelude.{◌≡◌, Bool, true, false, ◌||◌, List, [], ◌∷◌, ℕ, suc, ◌+◌, ◌≤◌, ◌<◌, ltb, eqb}
+use Rattle.std.specs.Prelude.{◌≡◌, Bool, true, false, ◌||◌, List, [], ◌∷◌, ℕ, suc, ◌+◌, ◌≤◌, ltb, eqb}
 use Rattle.std.proofs.Common.{ap, ◌∙◌, arith, ltb-false}
 use Rattle.tables.specs.Tests.{neither}
 use Rattle.tables.specs.Loops.{sum, sum_turn}

@@ -1,5 +1,5 @@
 -- How set, reset, the runs and the step checker cross to C: a `Crossing`, and the tables that the call may write as it leaves them.
-use Rattle.std.specs.Prelude.{◌≡◌, refl, Bool, true, false, cond, List, [], ℕ, ◌≤◌, ◌<◌, length, set, take, drop, ltb}
+use Rattle.std.specs.Prelude.{◌≡◌, refl, Bool, true, cond, List, [], ℕ, ◌≤◌, ◌<◌, length, set, take, ltb}
 use Rattle.std.proofs.Common.{sym, ap, ◌∙◌, append-nil, arith, drop_of_length-le, lt-ltb, le-ltb}
 use Rattle.tables.specs.Zeros.{zeros, copied, copied_is, zeros_length}
 use Rattle.answers.specs.declared.Verdict.{Verdict}

@@ -20,7 +20,6 @@ use Rattle.answers.specs.Numbers.{Answer, accepted, refused}
 use Rattle.answers.specs.Order.{◌⨾◌, refuse, refuse_at, in_order}
 use Rattle.answers.specs.OrderLaws.{then_accepted, then_stop, then_pass, refuse_at_on, refuse_at_off, in_order_stop}
 use Rattle.block.specs.declared.Kind.{Kind}
-use Rattle.block.specs.declared.Kind.TheVariants as Kind
 use Rattle.block.specs.Block.{Block, code, first, second}
 use Rattle.block.specs.Kinds.{kind_of, operands_of}
 use Rattle.block.specs.Validation.{Counts, counts_of, parameter_answer, words_answer, node_answer, state_answer, delay_answer, records_answer, validation}
@@ -29,15 +28,12 @@ use Rattle.expand.specs.Good.{GoodAs}
 use Rattle.expand.specs.Graph.{Graph, graph_of}
 use Rattle.expand.specs.GraphLaws.{GoodGraph, good_graph}
 use Rattle.kernel.specs.declared.Source.{Source}
-use Rattle.kernel.specs.declared.Source.TheVariants as Source
 use Rattle.kernel.specs.declared.Step.{Step}
 use Rattle.kernel.specs.declared.Step.TheVariants.{Load, Compute, Spill, Reload, StoreState, StoreDelay, StoreOutput, StoreControl}
 use Rattle.kernel.specs.declared.StepWords.{StepWords}
-use Rattle.kernel.specs.declared.StepWords.TheVariants as StepWords
 use Rattle.kernel.specs.declared.Instruction.{Instruction}
 use Rattle.kernel.specs.declared.Instruction.TheVariants.{Immediate, Add, Sub, Mul, Min, Max, Neg, Abs, IntegerSub}
 use Rattle.kernel.specs.declared.InstructionWords.{InstructionWords}
-use Rattle.kernel.specs.declared.InstructionWords.TheVariants as InstructionWords
 use Rattle.kernel.specs.declared.Phase.{Phase}
 use Rattle.kernel.specs.declared.Phase.TheVariants.{Control, Sample}
 use Rattle.kernel.specs.declared.Kernel.{Kernel}

@@ -6,7 +6,6 @@ use Rattle.expand.specs.Graph.{Graph}
 use Rattle.kernel.specs.declared.Step.{Step}
 use Rattle.kernel.specs.declared.Step.TheVariants.{Load, Compute, Spill, Reload, StoreState, StoreDelay, StoreOutput, StoreControl}
 use Rattle.kernel.specs.declared.InstructionWords.{InstructionWords}
-use Rattle.kernel.specs.declared.InstructionWords.TheVariants as InstructionWords
 use Rattle.kernel.specs.Instructions.{destination, instruction_at}
 use Rattle.classes.specs.Start.{index_length}
 use Rattle.classes.specs.Index.{Indexed}

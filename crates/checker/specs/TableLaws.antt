@@ -1,5 +1,5 @@
 -- A store in one region of the work table is a store in what is held; the index stands. Assumes nothing.
-use Rattle.std.specs.Prelude.{◌≡◌, refl, ◌⊎◌, List, ℕ, ◌+◌, ◌-◌, ◌≤◌, ◌<◌, length, get_or, set, ltb}
+use Rattle.std.specs.Prelude.{◌≡◌, refl, ◌⊎◌, List, ℕ, ◌+◌, ◌≤◌, ◌<◌, length, get_or, set, ltb}
 use Rattle.std.proofs.Common.{sym, inl, inr, arith, length-set, ltb-true, ltb-false, lt-ltb, le-ltb}
 use Rattle.std.proofs.Math.ListN.{get_or-eq_default}
 use Rattle.std.proofs.Math.Seq.{set_out, get_or-set_same}
@@ -8,7 +8,6 @@ use Rattle.tables.specs.Tests.{cond_pred}
 use Rattle.kernel.specs.declared.Step.{Step}
 use Rattle.kernel.specs.declared.Step.TheVariants.{Load, Compute, Spill, Reload, StoreState, StoreDelay, StoreOutput, StoreControl}
 use Rattle.kernel.specs.declared.InstructionWords.{InstructionWords}
-use Rattle.kernel.specs.declared.InstructionWords.TheVariants as InstructionWords
 use Rattle.kernel.specs.Instructions.{destination, instruction_at}
 use Rattle.classes.specs.Index.{Indexed, indexed_above}
 use Rattle.checker.specs.declared.Terms.{Terms}

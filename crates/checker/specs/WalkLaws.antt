@@ -23,7 +23,6 @@ use Rattle.answers.specs.Order.{◌⨾◌, refuse_at, in_order}
 use Rattle.answers.specs.OrderLaws.{refuse_at_on, refuse_at_off, in_order_start, in_order_next, in_order_stop, in_order_end, hand_on, go_on}
 use Rattle.kernel.specs.declared.Step.{Step}
 use Rattle.kernel.specs.declared.StepWords.{StepWords}
-use Rattle.kernel.specs.declared.StepWords.TheVariants as StepWords
 use Rattle.kernel.specs.declared.Phase.{Phase}
 use Rattle.kernel.specs.declared.Phase.TheVariants.{Control, Sample}
 use Rattle.kernel.specs.Steps.{step_at}

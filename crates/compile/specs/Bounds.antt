@@ -22,7 +22,7 @@ use Rattle.allocate.specs.Outcomes.{allocated_is, not_allocated, post_at}
 use Rattle.compile.specs.Draft.{Draft, usable, compile_flow}
 use Rattle.compile.specs.Words.{Compiled, compiled_of}
 use Rattle.compile.specs.Compile.{compile}
-use Rattle.compile.specs.Call.{most_steps, memory_count, Tables, tables, too_short, shorter, compile_judged, compiled_tables, tables_after, compile_call, zero_past, expansion_after, work_words}
+use Rattle.compile.specs.Call.{most_steps, memory_count, Tables, too_short, shorter, compile_judged, compiled_tables, tables_after, compile_call, zero_past, expansion_after, work_words}
 use Rattle.compile.specs.PhasesFit.{DraftFits, flow_fits, usable_sixteen}
 
 -- ---- the words of a draft

@@ -64,7 +64,7 @@ use Rattle.allocate.specs.HoldsNamed.{TaskFacts, AllFacts, named_is}
 use Rattle.allocate.specs.HoldsNamed as Named
 use Rattle.allocate.specs.HoldsPhase.{PhaseBegins, planned_is, phase_starts, phase_asks, written_none}
 use Rattle.allocate.specs.Scheduled.{number_ok, sample_tasks_ok, control_tasks_ok}
-use Rattle.compile.specs.Draft.{usable, usable_bit, control_setting, sample_setting}
+use Rattle.compile.specs.Draft.{usable, control_setting, sample_setting}
 use Rattle.compile.specs.Call.{most_steps}
 use Rattle.compile.specs.PhasesFit.{control_ran, control_cost, sample_cost, phases, phases_but_one}
 

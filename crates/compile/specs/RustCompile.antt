@@ -12,7 +12,7 @@ use Rattle.plan.specs.Flow.{flow_of}
 use Rattle.plan.specs.FlowLaws.{flow_length, good_flow}
 use Rattle.plan.specs.Lists.{count}
 use Rattle.plan.specs.Nodes.{Flow}
-use Rattle.plan.specs.Schedule.{Plan, plan_of, control_tasks}
+use Rattle.plan.specs.Schedule.{Plan, plan_of}
 use Rattle.plan.specs.Planned.{GoodFlow, slots}
 use Rattle.plan.specs.RustPlan.{plan_rust}
 use Rattle.plan.specs.PlanSame.{plan_same}

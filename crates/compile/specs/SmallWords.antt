@@ -11,7 +11,6 @@ use Rattle.std.proofs.Math.ListN.{get_or-eq_default}
 use Rattle.tables.specs.Stores.{Each, Word, each_nil, each_cons}
 use Rattle.tables.specs.Lists.{list_length}
 use Rattle.block.specs.declared.Kind.{Kind}
-use Rattle.block.specs.declared.Kind.TheVariants as Kind
 use Rattle.block.specs.Block.{Block, state_count, delay_count, code, first, second}
 use Rattle.block.specs.Limits.{most_nodes, most_states, most_delays}
 use Rattle.block.specs.Kinds.{kind_of}
@@ -24,7 +23,7 @@ use Rattle.kernel.specs.Steps.{step_word, step_index}
 use Rattle.kernel.specs.Instructions.{instruction_word, instruction_immediate}
 use Rattle.kernel.specs.RoundTrips.{step_word_small, instruction_word_small}
 use Rattle.kernel.specs.declared.Instruction.TheVariants.{Add, Sub, Mul, Min, Max, Neg, Abs, IntegerSub}
-use Rattle.plan.specs.Lists.{filter, any_of, count}
+use Rattle.plan.specs.Lists.{filter, any_of}
 use Rattle.plan.specs.Nodes.{Node, input_node, network_node, constant_node, parameter_node, state_node, delay_node, binary_node, unary_node, Flow, node_at}
 use Rattle.plan.specs.Hoist.{number}
 use Rattle.plan.specs.Origins.{Origin, no_origin, control_origin, node_origin, sample_origin, origin_at}
@@ -36,7 +35,7 @@ use Rattle.plan.specs.Planned.{GoodFlow, AllWrites, all_filter, homes, homes_len
 use Rattle.plan.specs.FlowLaws.{flow_length, flow_at, flow_off, good_flow}
 use Rattle.allocate.specs.Actions.{Operation, load_immediate, binary, unary, Action, load, compute, spill, reload, store_state, store_delay, store_output, store_control, instruction_of}
 use Rattle.allocate.specs.ActionWords.{step_of, operation_in, operations_in, step_words, instruction_words}
-use Rattle.allocate.specs.State.{allocated, Setting, State, begin}
+use Rattle.allocate.specs.State.{allocated, Setting, begin}
 use Rattle.allocate.specs.Allocator.{allocate}
 use Rattle.allocate.specs.Outcomes.{Post, post_bind, post_at}
 use Rattle.allocate.specs.WordLaws.{AllActions, all_map, all_append, action_index, action_immediate, immediate_of, Fine, FineOrigin, FineTasks, FineState, run_fine}

@@ -9,7 +9,6 @@ use native.Mathlib.Omega.{arith}
 use Rattle.block.specs.Validation.{Counts}
 use Rattle.expand.specs.Graph.{Graph}
 use Rattle.kernel.specs.declared.Source.{Source}
-use Rattle.kernel.specs.declared.Source.TheVariants as Source
 use Rattle.kernel.specs.declared.Step.TheVariants.{Load, StoreControl}
 use Rattle.kernel.specs.declared.Phase.TheVariants.{Control}
 use Rattle.kernel.specs.declared.Kernel.{Kernel}

@@ -14,7 +14,6 @@ use Rattle.expand.specs.Good.{GoodNode}
 use Rattle.expand.specs.GraphLaws.{GoodGraph}
 use Rattle.classes.specs.Classes.{classes_to, is_operand}
 use Rattle.kernel.specs.declared.Source.{Source}
-use Rattle.kernel.specs.declared.Source.TheVariants as Source
 use Rattle.kernel.specs.declared.Step.{Step}
 use Rattle.kernel.specs.declared.Step.TheVariants.{Compute}
 use Rattle.kernel.specs.declared.Phase.{Phase}

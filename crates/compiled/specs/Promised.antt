@@ -1,7 +1,6 @@
 -- DEMAND 3, LAST SENTENCE, as one promise of a call of compile: `Promised`, and that every call keeps it: `promised`. Assumes nothing.
-use Rattle.std.specs.Prelude.{◌≡◌, List, [], ℕ, ◌≤◌, length}
-use Rattle.std.proofs.Common.{sym, ap}
-use Rattle.answers.specs.Numbers.{Answer, accepted, refused}
+use Rattle.std.specs.Prelude.{◌≡◌, [], ℕ, ◌≤◌, length}
+use Rattle.answers.specs.Numbers.{accepted, refused}
 use Rattle.block.specs.Block.{Block}
 use Rattle.expand.specs.Graph.{graph_of}
 use Rattle.memory.specs.Signals.{Signals}
@@ -10,7 +9,7 @@ use Rattle.step_run.specs.declared.Done as Run
 use Rattle.step_run.specs.Run as Step
 use Rattle.checker.specs.Check as Check
 use Rattle.compile.specs.Draft.{usable}
-use Rattle.compile.specs.Call.{Done, Tables, Outcome, outcome, compile_call}
+use Rattle.compile.specs.Call.{Done, Tables, Outcome, compile_call}
 use Rattle.compiled.specs.CompiledChecks.{CheckRoom, compiled_checks}
 use Rattle.compiled.specs.CompiledRuns.{compiled_calls}
 use Rattle.compiled.specs.CallLocked.{three_never_locked}

@@ -8,7 +8,6 @@ use Rattle.std.proofs.Math.ListN.{get_or}
 use Rattle.block.specs.Validation.{Counts}
 use Rattle.expand.specs.Graph.{Graph}
 use Rattle.kernel.specs.declared.Source.{Source}
-use Rattle.kernel.specs.declared.Source.TheVariants as Source
 use Rattle.kernel.specs.declared.Step.TheVariants.{Load, Spill, Reload, StoreState, StoreDelay, StoreOutput}
 use Rattle.kernel.specs.declared.Phase.TheVariants.{Sample}
 use Rattle.kernel.specs.declared.Kernel.{Kernel}

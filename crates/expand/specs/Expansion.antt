@@ -1,6 +1,6 @@
 -- `Block::expanded`: every node's primitive nodes, one after the other, with operands, output and updates mapped; and the call that writes them.
 -- Everything is said over the Newton steps inside tanh; `expansion` says how many there are. Definitions alone.
-use Rattle.std.specs.Prelude.{Bool, true, false, List, [], ◌∷◌, ◌++◌, ℕ, zero, suc, ◌+◌, ◌-◌, ◌*◌, length, drop, ltb}
+use Rattle.std.specs.Prelude.{List, [], ◌∷◌, ◌++◌, ℕ, zero, suc, ◌-◌, ◌*◌, length, drop, ltb}
 use Rattle.answers.specs.Numbers as N
 use Rattle.answers.specs.Numbers.{Answer}
 use Rattle.answers.specs.Order.{◌⨾◌, refuse}

@@ -1,6 +1,6 @@
 -- Of a valid block every expanded node is good: its code is primitive, its operands stand before it, its index is below its table's count, its unused words are 0.
 -- Said over the words of the expansion, `words_of (expansion b)`, so that who reads the table needs no list of nodes.
-use Rattle.std.specs.Prelude.{◌≡◌, refl, Bool, true, false, ◌||◌, List, [], ◌∷◌, ◌++◌, ℕ, zero, suc, ◌+◌, ◌-◌, ◌≤◌, ◌<◌, length, get_or, leb, eqb}
+use Rattle.std.specs.Prelude.{◌≡◌, refl, Bool, true, false, ◌||◌, List, [], ◌∷◌, ◌++◌, ℕ, zero, suc, ◌+◌, ◌≤◌, ◌<◌, length, get_or, leb, eqb}
 use Rattle.std.proofs.Common.{not-suc-le-zero, arith}
 use Rattle.std.proofs.Math.Decide.{dec_lt}
 use Rattle.tables.specs.Tests.{◌&◌, true_false}

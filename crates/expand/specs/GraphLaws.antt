@@ -1,9 +1,8 @@
 -- What the graph of a valid block keeps: `good_graph`.
-use Rattle.std.specs.Prelude.{◌≡◌, refl, ◌⊎◌, [], ◌∷◌, ◌++◌, ℕ, zero, suc, ◌*◌, ◌≤◌, ◌<◌, length, get_or}
-use Rattle.std.proofs.Common.{◌∙◌, inl, inr, not-suc-le-zero, eq-or-lt_of_le, le_of_suc-le-suc, arith, length-append}
+use Rattle.std.specs.Prelude.{◌≡◌, ℕ, ◌*◌, ◌≤◌, ◌<◌, length, get_or}
+use Rattle.std.proofs.Common.{arith}
 use Rattle.std.proofs.Math.Decide.{dec_lt}
-use Rattle.std.proofs.Math.ListN.{get_or-append, get_or-eq_default}
-use Rattle.std.proofs.lemmas.List.{get_or_at}
+use Rattle.std.proofs.Math.ListN.{get_or-eq_default}
 use Rattle.block.specs.Block.{Block, state_count, delay_count, code, first, second}
 use Rattle.block.specs.Limits.{most_nodes}
 use Rattle.block.specs.Validation.{Counts, counts_of, expanded_length}

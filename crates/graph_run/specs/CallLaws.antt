@@ -1,5 +1,5 @@
 -- The call: what an accepted answer says, each way out of the tests, and what rendering leaves. Assumes nothing.
-use Rattle.std.specs.Prelude.{◌≡◌, Bool, true, false, not, List, [], ◌++◌, ℕ, ◌+◌, ◌*◌, ◌≤◌, ◌<◌, min, take, drop, ltb}
+use Rattle.std.specs.Prelude.{◌≡◌, Bool, true, false, not, List, [], ◌++◌, ℕ, ◌*◌, ◌≤◌, ◌<◌, min, take, drop, ltb}
 use Rattle.std.proofs.Math.Path.{sym, ap}
 use Rattle.std.proofs.Common.{◌∙◌, length-append, length-drop, take_at, lt-ltb, le-ltb, ltb-false}
 use native.Mathlib.Omega.{arith}
@@ -32,8 +32,8 @@ use Rattle.memory.specs.SizeLaws.{Fitting, fitting}
 use Rattle.graph_run.specs.Ready.{Lent}
 use Rattle.graph_run.specs.Plan.{mapped_graph, Planned}
 use Rattle.graph_run.specs.PlanLaws.{samples_of, IsMap, graph_is, planned}
-use Rattle.memory.specs.Signals.{Signals, Rendered, rendered}
-use Rattle.graph_run.specs.Run.{samples_to, Tables, tables, Outcome, outcome, run_answer, run_after, run_call}
+use Rattle.memory.specs.Signals.{Signals, Rendered}
+use Rattle.graph_run.specs.Run.{samples_to, Tables, tables, outcome, run_answer, run_after, run_call}
 
 -- what an accepted call is
 pub record Accepted (b : Block) (s : Signals) (t : Tables) : Type 0 where

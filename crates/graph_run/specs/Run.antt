@@ -5,7 +5,6 @@ use Rattle.answers.specs.Order.{◌⨾◌, refuse}
 use Rattle.block.specs.Block.{Block}
 use Rattle.block.specs.Validation.{expanded_length, validation}
 use Rattle.expand.specs.Graph.{Graph, graph_of}
-use Rattle.memory.specs.Lines.{Memories}
 use Rattle.memory.specs.Sizes.{run_fits}
 use Rattle.memory.specs.Signals.{Signals, given_by, Rendered, rendered}
 use Rattle.graph_run.specs.Sample.{Sampled, sample}

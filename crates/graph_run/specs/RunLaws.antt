@@ -3,7 +3,7 @@ use Rattle.std.specs.Prelude.{◌≡◌, List, ℕ, ◌+◌, ◌≤◌, length, 
 use Rattle.std.proofs.Math.Path.{refl}
 use Rattle.std.proofs.Common.{sym, ap, ◌∙◌, subst, add-one, arith, length-set}
 use Rattle.expand.specs.Graph.{Graph}
-use Rattle.memory.specs.Lines.{Memories, memories}
+use Rattle.memory.specs.Lines.{Memories}
 use Rattle.memory.specs.Signals.{Given, Signals, given_by, Rendered, rendered}
 use Rattle.graph_run.specs.Sample.{values, updated, Sampled, sampled, sample}
 use Rattle.graph_run.specs.Run.{emit, samples_to}

@@ -3,7 +3,7 @@ use Rattle.std.specs.Prelude.{◌≡◌, ℕ, ◌+◌, ◌-◌, ◌*◌, ◌%◌
 use Rattle.std.proofs.Common.{arith, ltb-false}
 use Rattle.std.proofs.lemmas.Bool.{eqb-false}
 use Rattle.tables.specs.Tests.{neither, same_of}
-use Rattle.tables.specs.Loops.{some, some_false}
+use Rattle.tables.specs.Loops.{some_false}
 use Rattle.tables.specs.Lists.{list_of}
 use Rattle.answers.specs.Numbers.{accepted}
 use Rattle.answers.specs.OrderLaws.{then_accepted, refuse_accepted, in_order_accepted}

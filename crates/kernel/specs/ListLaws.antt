@@ -4,16 +4,13 @@ use Rattle.std.proofs.Common.{sym, ◌∙◌, ltb-true, ne_eqb}
 use Rattle.std.proofs.Math.Path.{ap}
 use native.Mathlib.Omega.{arith}
 use Rattle.tables.specs.Loops.{every, every_true, every_all}
-use Rattle.tables.specs.Tests.{◌&◌, &_both, &_true, &_left, &_right, &_next, true_false, differ_of, differs}
+use Rattle.tables.specs.Tests.{&_both, &_true, &_left, &_right, &_next, true_false, differ_of, differs}
 use Rattle.kernel.specs.declared.Source.{Source}
-use Rattle.kernel.specs.declared.Source.TheVariants as Source
 use Rattle.kernel.specs.declared.Step.{Step}
 use Rattle.kernel.specs.declared.Step.TheVariants.{Load, Compute, Spill, Reload, StoreState, StoreDelay, StoreOutput, StoreControl}
 use Rattle.kernel.specs.declared.StepWords.{StepWords}
-use Rattle.kernel.specs.declared.StepWords.TheVariants as StepWords
 use Rattle.kernel.specs.declared.Instruction.{Instruction}
 use Rattle.kernel.specs.declared.InstructionWords.{InstructionWords}
-use Rattle.kernel.specs.declared.InstructionWords.TheVariants as InstructionWords
 use Rattle.kernel.specs.declared.Phase.{Phase}
 use Rattle.kernel.specs.declared.Phase.TheVariants.{Control, Sample}
 use Rattle.kernel.specs.declared.Kernel.{Kernel}

@@ -4,10 +4,8 @@ use Rattle.std.specs.Prelude.{◌≡◌, refl, Bool, true, false, cond}
 use Rattle.std.proofs.Common.{sym, ap}
 use Rattle.kernel.specs.declared.Step.{Step}
 use Rattle.kernel.specs.declared.StepWords.{StepWords}
-use Rattle.kernel.specs.declared.StepWords.TheVariants as StepWords
 use Rattle.kernel.specs.declared.Instruction.{Instruction}
 use Rattle.kernel.specs.declared.InstructionWords.{InstructionWords}
-use Rattle.kernel.specs.declared.InstructionWords.TheVariants as InstructionWords
 use Rattle.kernel.specs.Steps.{step_or}
 use Rattle.kernel.specs.Instructions.{instruction_or}
 use Rattle.kernel.specs.Lists.{is_formed}

@@ -5,15 +5,12 @@ use Rattle.std.proofs.Math.Path.{refl, sym}
 use Rattle.std.proofs.Common.{◌∙◌, arith, eqb-true}
 use Rattle.tables.specs.Tests.{cond_pred, both}
 use Rattle.kernel.specs.declared.Source.{Source}
-use Rattle.kernel.specs.declared.Source.TheVariants as Source
 use Rattle.kernel.specs.declared.Step.{Step}
 use Rattle.kernel.specs.declared.Step.TheVariants.{Load, Compute, Spill, Reload, StoreState, StoreDelay, StoreOutput, StoreControl}
 use Rattle.kernel.specs.declared.StepWords.{StepWords}
-use Rattle.kernel.specs.declared.StepWords.TheVariants as StepWords
 use Rattle.kernel.specs.declared.Instruction.{Instruction}
 use Rattle.kernel.specs.declared.Instruction.TheVariants.{Immediate, Add, Sub, Mul, Min, Max, Neg, Abs, IntegerSub}
 use Rattle.kernel.specs.declared.InstructionWords.{InstructionWords}
-use Rattle.kernel.specs.declared.InstructionWords.TheVariants as InstructionWords
 use Rattle.kernel.specs.Steps.{step_code, step_register, step_index, step_word, unused_zero, step_from, step_of}
 use Rattle.kernel.specs.Instructions.{packed, instruction_word, instruction_immediate, formed_if, instruction_from, instruction_of}
 

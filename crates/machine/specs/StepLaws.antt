@@ -8,12 +8,11 @@ use Rattle.tables.specs.Loops.{every, every_true}
 use Rattle.kernel.specs.declared.Step.{Step}
 use Rattle.kernel.specs.declared.Step.TheVariants.{Load, Compute, Spill, Reload, StoreState, StoreDelay, StoreOutput, StoreControl}
 use Rattle.kernel.specs.declared.StepWords.{StepWords}
-use Rattle.kernel.specs.declared.StepWords.TheVariants as StepWords
 use Rattle.kernel.specs.declared.Phase.{Phase}
 use Rattle.kernel.specs.declared.Kernel.{Kernel}
 use Rattle.kernel.specs.Steps.{step_at, allowed_in}
 use Rattle.kernel.specs.Lists.{Sizes, sizes, index_inside, computes_formed, step_may_run, words_may_run, may_run, phase_may_run}
-use Rattle.memory.specs.Lines.{memories, store_delay, store_state}
+use Rattle.memory.specs.Lines.{store_delay, store_state}
 use Rattle.memory.specs.Fit.{Fit, line_lengths}
 use Rattle.memory.specs.LineLaws.{fit_store, fit_state}
 use Rattle.memory.specs.Signals.{Given}

@@ -1,5 +1,5 @@
 -- "Set and reset validate and test sizes by 16; reset writes initial states, zero cells, zero cursors." Definitions alone.
-use Rattle.std.specs.Prelude.{Bool, not, List, ℕ, length, set, replicate, leb}
+use Rattle.std.specs.Prelude.{not, List, ℕ, set, replicate, leb}
 use Rattle.words.specs.Operations.{in_range}
 use Rattle.answers.specs.Numbers.{Answer, accepted, refused}
 use Rattle.answers.specs.Order.{◌⨾◌, refuse}

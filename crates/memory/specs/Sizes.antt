@@ -1,6 +1,6 @@
 -- Answer 16: "input, output and (flag set) network words differ in length, parameter values, states, cursors or delay area aren't the block's size, a
 -- cursor isn't below its delay's length". Definitions alone.
-use Rattle.std.specs.Prelude.{Bool, not, ◌||◌, List, ℕ, length, get_or, ltb, eqb}
+use Rattle.std.specs.Prelude.{Bool, ◌||◌, List, ℕ, length, get_or, ltb, eqb}
 use Rattle.tables.specs.Loops.{every, sum}
 use Rattle.tables.specs.Tests.{◌&◌}
 use Rattle.block.specs.Block.{Block, parameter_count, state_count, delay_count, delay_length}

@@ -1,5 +1,5 @@
 -- The control phase's share of the plan as the work table holds it: `control_table`, and that the six functions leave it: `control_share`. Assumes nothing.
-use Rattle.std.specs.Prelude.{◌≡◌, refl, ◌⊎◌, Bool, true, replicate, T, eqb}
+use Rattle.std.specs.Prelude.{◌≡◌, ◌⊎◌, Bool, true, replicate, T, eqb}
 use Rattle.std.proofs.Math.Path.{sym, ap}
 use Rattle.std.proofs.Common.{◌∙◌, inl, inr, arith, eqb→eq}
 use Rattle.std.proofs.Math.Bool.{false}

@@ -1,6 +1,5 @@
 -- `check_and_run`: a refusal leaves the tables as the check did; else the run follows. Assumes nothing.
 use Rattle.agree.specs.OrderedCalls.{check_refuses, run_follows}
-use borrow.Author.Rules.{rules}
 use Rattle.agree.proofs.check_and_run.Goals as goal
 
 pub returns-in-Refused : goal.returns-in-Refused

@@ -1,6 +1,5 @@
 -- `checked_run`: a refusal of the tests hands the tables back as they came; else check and run follow. Assumes nothing.
 use Rattle.agree.specs.OrderedCalls.{tests_refuse, calls_follow}
-use borrow.Author.Rules.{rules}
 use Rattle.agree.proofs.checked_run.Goals as goal
 
 pub returns-in-Refused : goal.returns-in-Refused

@@ -1,6 +1,5 @@
 -- `judge`: the work table is tested behind validation, the rest is the step run's. Assumes nothing.
 use Rattle.agree.specs.OrderedCalls.{refused_first, small_counts, short_work, judged_by_run}
-use borrow.Author.Rules.{rules}
 use Rattle.agree.proofs.judge.Goals as goal
 
 pub returns-in_default : goal.returns-in_default

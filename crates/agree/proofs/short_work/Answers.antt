@@ -1,5 +1,4 @@
 -- `short_work`: the one test of the definition. Assumes nothing.
-use borrow.Author.Rules.{rules}
 use Rattle.agree.proofs.short_work.Goals as goal
 
 pub returns : goal.returns

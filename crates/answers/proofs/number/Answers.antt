@@ -1,5 +1,4 @@
 -- `number`: in each arm the refusal is that arm's case, whose number computes. Assumes nothing.
-use borrow.Author.Rules.{rules}
 use Rattle.answers.proofs.number.Goals as goal
 
 pub returns-in-Malformed : goal.returns-in-Malformed

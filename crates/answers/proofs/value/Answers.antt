@@ -1,5 +1,4 @@
 -- `value`: in each arm the refusal is that arm's case, whose values compute. Assumes nothing.
-use borrow.Author.Rules.{rules}
 use Rattle.answers.proofs.value.Goals as goal
 
 pub returns-in-Malformed : goal.returns-in-Malformed

@@ -1,5 +1,4 @@
 -- `validate`: the first test that passes gives its number, and behind six that fail the records answer.
-use borrow.Author.Rules.{rules}
 use mathlib.Core.Path.{sym, ◌∙◌}
 use Rattle.answers.specs.OrderLaws.{refuse_stop, refuse_pass}
 use Rattle.block.specs.Validation.{network_flag_clear, needs_version_two, too_large, validation}

@@ -1,5 +1,4 @@
 -- `validate_records`: each verdict is handed on where it refuses, and passed where it is valid; the sizes are within the limits of 6.
-use borrow.Author.Rules.{rules}
 use mathlib.Core.Path.{sym, ap, ◌∙◌}
 use borrow.Author.Tests.{le-leb, lt-leb}
 use Rattle.answers.specs.Numbers.{answer_of}

@@ -1,5 +1,4 @@
 -- `lichenstitch_expand`: the table is as `expand` leaves it; length and output are written out by `accept`, a refusal by `refuse`.
-use borrow.Author.Rules.{rules}
 use Rattle.capi.specs.Crossing.{expansion_crosses}
 use Rattle.capi.proofs.lichenstitch_expand.Goals as goal
 

@@ -1,5 +1,4 @@
 -- `lichenstitch_validate`: a valid block is 0 and leaves the lent words, a refusal is written out by `refuse`.
-use borrow.Author.Rules.{rules}
 use mathlib.Core.Path.{refl}
 use Rattle.capi.specs.Crossing.{verdict_crosses}
 use Rattle.capi.proofs.lichenstitch_validate.Goals as goal

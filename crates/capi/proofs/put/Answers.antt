@@ -1,5 +1,4 @@
 -- `put`: past the table's end `set` changes nothing, and before it the word is there.
-use borrow.Author.Rules.{rules}
 use mathlib.Core.Path.{sym}
 use lib.Seq.{set_out}
 use Rattle.capi.proofs.put.Goals as goal

@@ -1,5 +1,4 @@
 -- `refuse`: number and first value are the refusal's own, and `put` writes the value.
-use borrow.Author.Rules.{rules}
 use Rattle.capi.specs.Crossing.{refusal_crosses}
 use Rattle.capi.proofs.refuse.Goals as goal
 

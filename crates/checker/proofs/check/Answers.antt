@@ -2,7 +2,6 @@
 use Rattle.checker.specs.CheckLaws.{refused_call}
 use Rattle.answers.specs.Numbers.{answer_of}
 use mathlib.Core.Path.{sym, ap, ◌∙◌}
-use borrow.Author.Rules.{rules}
 use Rattle.checker.proofs.check.Goals as goal
 
 pub returns-in_default : goal.returns-in_default

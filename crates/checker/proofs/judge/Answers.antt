@@ -1,7 +1,6 @@
 -- `judge`: each way out is a case of `check_judged`. Assumes nothing.
 use Rattle.checker.specs.CheckLaws.{few, refused_block, short_table, all_long}
 use native.Mathlib.Omega.{arith}
-use borrow.Author.Rules.{rules}
 use Rattle.checker.proofs.judge.Goals as goal
 
 pub returns-in_default : goal.returns-in_default

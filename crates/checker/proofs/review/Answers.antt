@@ -1,6 +1,5 @@
 -- `review`: the expansion and the map make the tables that `Begun` describes, whose listing is the block's; zeroing does the rest. Assumes nothing.
 use Rattle.checker.specs.CheckLaws.{accepted_check, begun, begun_planned, checked_call}
-use borrow.Author.Rules.{rules}
 use Rattle.checker.proofs.review.Goals as goal
 
 pub walk_block-verdict-requires : goal.walk_block-verdict-requires

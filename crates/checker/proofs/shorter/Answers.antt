@@ -1,6 +1,5 @@
 -- `shorter`: each test is one of the definition, in its order. Assumes nothing.
 use Rattle.checker.specs.CheckLaws.{shorter_expansion, shorter_steps, shorter_instructions, shorter_work}
-use borrow.Author.Rules.{rules}
 use Rattle.checker.proofs.shorter.Goals as goal
 
 pub returns-then-expansion-nodes : goal.returns-then-expansion-nodes

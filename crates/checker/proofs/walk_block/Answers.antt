@@ -4,7 +4,6 @@ use Rattle.checker.specs.PlanLaws.{mapped_length}
 use lib.ListN.{length}
 use native.Mathlib.Omega.{arith}
 use mathlib.Core.Path.{sym, ap, ◌∙◌}
-use borrow.Author.Rules.{rules}
 use Rattle.checker.proofs.walk_block.Goals as goal
 
 pub mapped_updates-updates-requires : goal.mapped_updates-updates-requires

@@ -1,7 +1,6 @@
 -- `classes::bucket_of` meets its contract. Assumes nothing.
 use borrow.Author.Tests.{lt-ltb, le-ltb}
 use Rattle.classes.specs.Start.{bucket_of}
-use borrow.Author.Rules.{rules}
 use Rattle.classes.proofs.bucket_of.Goals as goal
 
 pub returns-then-near-buckets : goal.returns-then-near-buckets

@@ -1,8 +1,7 @@
 -- `classes::find_cell` meets its contract. Assumes nothing.
 use mathlib.Core.Path.{sym, ◌∙◌}
 use native.Mathlib.Omega.{arith}
-use Rattle.classes.specs.Index.{Ready, Going, left, ready_room, going_start, going_in, going_node, going_hit, going_end, going_turn, going_less}
-use borrow.Author.Rules.{rules}
+use Rattle.classes.specs.Index.{ready_room, going_start, going_in, going_node, going_hit, going_end, going_turn, going_less}
 use Rattle.classes.proofs.find_cell.Goals as goal
 
 pub root-cell-requires : goal.root-cell-requires

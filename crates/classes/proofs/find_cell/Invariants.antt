@@ -1,7 +1,4 @@
-use mathlib.Core.Path.{sym, ◌∙◌}
-use native.Mathlib.Omega.{arith}
-use Rattle.classes.specs.Index.{Ready, Going, left, ready_room, going_start, going_in, going_node, going_hit, going_end, going_turn, going_less}
-use borrow.Author.Rules.{rules}
+use Rattle.classes.specs.Index.{Ready, Going, left}
 use Rattle.classes.proofs.find_cell.Given as goal
 
 abbrev pub invariant-loop-word : goal.invariant-loop-word

@@ -1,6 +1,5 @@
 -- `classes::first_key` meets its contract. Assumes nothing.
 use Rattle.classes.specs.Classes.{first_key}
-use borrow.Author.Rules.{rules}
 use Rattle.classes.proofs.first_key.Goals as goal
 
 pub returns : goal.returns

@@ -2,7 +2,6 @@
 use borrow.Author.Tests.{eq-eqb, ne_eqb}
 use Rattle.tables.specs.Tests.{◌&◌}
 use Rattle.classes.specs.Index.{keys_at}
-use borrow.Author.Rules.{rules}
 use Rattle.classes.proofs.has_keys.Goals as goal
 
 pub returns-then-work-at : goal.returns-then-work-at

@@ -2,7 +2,6 @@
 use native.Mathlib.Omega.{arith}
 use lib.ListN.{length-set}
 use Rattle.classes.specs.Index.{filled_ready, filled_new, filled_old, code_small, ready_room, walk_in}
-use borrow.Author.Rules.{rules}
 use Rattle.classes.proofs.insert.Goals as goal
 
 pub find_cell-cell-requires : goal.find_cell-cell-requires

@@ -1,9 +1,6 @@
 -- `classes::insert_all` meets its contract. Assumes nothing.
 use mathlib.Core.Path.{◌≡◌, refl, ◌∙◌, subst}
 use native.Mathlib.Omega.{arith}
-use Prim.Native.Nat.{ℕ, ◌-◌, ◌≤◌}
-use lib.ListN.{length, get_or}
-use Rattle.classes.specs.Start.{index_length}
 use Rattle.classes.specs.Index.{Filled}
 use borrow.Author.Rules.{rules}
 use Rattle.classes.proofs.insert_all.Goals as goal

@@ -1,10 +1,8 @@
-use mathlib.Core.Path.{◌≡◌, refl, ◌∙◌, subst}
-use native.Mathlib.Omega.{arith}
+use mathlib.Core.Path.{◌≡◌}
 use Prim.Native.Nat.{ℕ, ◌-◌, ◌≤◌}
 use lib.ListN.{length, get_or}
 use Rattle.classes.specs.Start.{index_length}
 use Rattle.classes.specs.Index.{Filled}
-use borrow.Author.Rules.{rules}
 use Rattle.classes.proofs.insert_all.Given as goal
 
 abbrev pub invariant-loop-node : goal.invariant-loop-node

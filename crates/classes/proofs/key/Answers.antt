@@ -1,9 +1,7 @@
 -- `classes::key` meets its contract. Assumes nothing.
 use mathlib.Core.Path.{sym}
-use borrow.Author.Tests.{not-true, not-false}
 use Rattle.classes.specs.Classes.{key_of}
 use lib.ListN.{get_or-eq_default}
-use borrow.Author.Rules.{rules}
 use Rattle.classes.proofs.key.Goals as goal
 
 pub returns-then-not-operand : goal.returns-then-not-operand

@@ -5,7 +5,6 @@ use Prim.Native.Nat.{ℕ}
 use lib.ListN.{length, get_or}
 use Rattle.tables.specs.Zeros.{zeros_at}
 use Rattle.classes.specs.Index.{fresh_filled}
-use borrow.Author.Rules.{rules}
 use Rattle.classes.proofs.prepare.Goals as goal
 
 pub insert_all-requires : goal.insert_all-requires

@@ -1,7 +1,6 @@
 -- `classes::root` meets its contract. Assumes nothing.
 use native.Mathlib.Omega.{arith}
 use Rattle.classes.specs.Start.{root, bucket_in, buckets_upto}
-use borrow.Author.Rules.{rules}
 use Rattle.classes.proofs.root.Goals as goal
 
 pub overflow_mul-before : goal.overflow_mul-before

@@ -1,6 +1,5 @@
 -- `classes::second_key` meets its contract. Assumes nothing.
 use Rattle.classes.specs.Classes.{second_key}
-use borrow.Author.Rules.{rules}
 use Rattle.classes.proofs.second_key.Goals as goal
 
 pub returns : goal.returns

@@ -1,7 +1,6 @@
 -- `build`: the expansion and the map make the tables that `Begun` describes; zeroing does the rest. Assumes nothing.
 use mathlib.Core.Path.{◌∙◌}
 use Rattle.compile.specs.CallLaws.{accepts, begun, begun_mapped, built_call}
-use borrow.Author.Rules.{rules}
 use Rattle.compile.proofs.build.Goals as goal
 
 pub compile_expanded-compilation-requires : goal.compile_expanded-compilation-requires

@@ -1,6 +1,5 @@
 -- `compile`: a refusal by 1 to 13 hands the tables back as they came; every other call is built. Assumes nothing.
 use Rattle.compile.specs.CallLaws.{refused_call, passed_call}
-use borrow.Author.Rules.{rules}
 use Rattle.compile.proofs.compile.Goals as goal
 
 pub returns-in-Refused : goal.returns-in-Refused

@@ -4,7 +4,6 @@ use native.Mathlib.Omega.{arith}
 use lib.ListN.{length}
 use Rattle.compile.specs.Updates.{mapped_length}
 use Rattle.compile.specs.CallLaws.{mapped_begun, mapped_leave}
-use borrow.Author.Rules.{rules}
 use Rattle.compile.proofs.compile_expanded.Goals as goal
 
 pub mapped_updates-updates-requires : goal.mapped_updates-updates-requires

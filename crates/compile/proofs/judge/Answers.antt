@@ -1,7 +1,6 @@
 -- `judge`: each way out is a case of `compile_judged`. Assumes nothing.
 use native.Mathlib.Omega.{arith}
 use Rattle.compile.specs.CallLaws.{few, refused_block, short_table, all_long}
-use borrow.Author.Rules.{rules}
 use Rattle.compile.proofs.judge.Goals as goal
 
 pub returns-in_default : goal.returns-in_default

@@ -1,6 +1,5 @@
 -- `expand`: a refusal of validation is handed on, and what it accepts is valid. Assumes nothing.
 use Rattle.expand.specs.Calls.{expand_refused, expand_accepted}
-use borrow.Author.Rules.{rules}
 use Rattle.expand.proofs.expand.Goals as goal
 
 pub returns-in-Refused : goal.returns-in-Refused

@@ -1,5 +1,4 @@
 -- `map_nodes`: each way out is a case of the definition. Assumes nothing.
-use borrow.Author.Rules.{rules}
 use Rattle.expand.specs.MapLaws.{map_short, map_large, map_done}
 use Rattle.expand.proofs.map_nodes.Goals as goal
 

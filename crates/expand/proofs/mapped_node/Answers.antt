@@ -1,5 +1,4 @@
 -- `mapped_node`: the records up to the node expand to one node more than its last one's number. Assumes nothing.
-use borrow.Author.Rules.{rules}
 use mathlib.Core.Path.{sym}
 use Prim.Native.Nat.{◌+◌, ◌*◌}
 use native.Mathlib.Omega.{arith}

@@ -1,5 +1,4 @@
 -- `mapped_update`: an update that is not 0 is a node's number and one, before and after. Assumes nothing.
-use borrow.Author.Rules.{rules}
 use native.Mathlib.Omega.{arith}
 use Prim.Native.Nat.{◌-◌}
 use Rattle.expand.specs.MapLaws.{within_small, update_within_is}

@@ -1,7 +1,5 @@
 -- `judge`: each way out is a case of `run_answer`. Assumes nothing.
 use Rattle.graph_run.specs.CallLaws.{refused_block, short_expansion, short_values, sizes_differ, all_fits}
-use borrow.Author.Tests.{not-true, not-false}
-use borrow.Author.Rules.{rules}
 use Rattle.graph_run.proofs.judge.Goals as goal
 
 pub returns-in_default : goal.returns-in_default

@@ -2,7 +2,6 @@
 use lib.ListN.{length}
 use Rattle.graph_run.specs.CallLaws.{accepted_run, begun, begun_planned, begun_lent, render_is}
 use native.Mathlib.Omega.{arith}
-use borrow.Author.Rules.{rules}
 use Rattle.graph_run.proofs.render.Goals as goal
 
 pub expand-requires : goal.expand-requires

@@ -2,7 +2,6 @@
 use Rattle.graph_run.specs.CallLaws.{refused_call, accepted_call}
 use Rattle.answers.specs.Numbers.{answer_of}
 use mathlib.Core.Path.{refl, sym, ap, ◌∙◌}
-use borrow.Author.Rules.{rules}
 use Rattle.graph_run.proofs.run.Goals as goal
 
 pub shape_of-expansion-in_default : goal.shape_of-expansion-in_default

@@ -1,6 +1,5 @@
 -- `execute`: the result is put at the destination. Assumes nothing.
 use mathlib.Core.Path.{◌∙◌}
-use borrow.Author.Rules.{rules}
 use Rattle.machine.specs.Machine.{execute}
 use Rattle.host.proofs.execute.Goals as goal
 

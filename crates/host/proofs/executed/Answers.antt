@@ -1,6 +1,5 @@
 -- `executed`: the words read are the instruction's, and the arm says which of the two cases they are. Assumes nothing.
 use mathlib.Core.Path.{sym, ap, ◌∙◌}
-use borrow.Author.Rules.{rules}
 use Rattle.answers.specs.declared.Verdict.TheVariants.{Valid}
 use Rattle.host.specs.Outcome.{outcome_of, ran, outcome}
 use Rattle.host.proofs.executed.Goals as goal

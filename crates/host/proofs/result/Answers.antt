@@ -1,5 +1,4 @@
 -- `result`: each arm is the operation that its case names, on the registers it reads. Assumes nothing.
-use borrow.Author.Rules.{rules}
 use Rattle.host.proofs.result.Goals as goal
 
 pub returns-in-Add : goal.returns-in-Add

@@ -1,5 +1,5 @@
 -- `read_block`: each way out is a case of the definition. Assumes nothing.
-use Rattle.std.proofs.Common.{sym, ◌∙◌, rules}
+use Rattle.std.proofs.Common.{sym, ◌∙◌}
 use Rattle.house.specs.Read.{tables}
 use Rattle.house.specs.ReadLaws.{frame_valid, frame_long, block_frame, block_length, block_short, block_room, block_done}
 use Rattle.house.proofs.read_block.Goals as goal

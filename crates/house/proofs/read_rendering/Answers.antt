@@ -1,5 +1,5 @@
 -- `read_rendering`: each way out is a case of the definition. Assumes nothing.
-use Rattle.std.proofs.Common.{arith, rules}
+use Rattle.std.proofs.Common.{arith}
 use Rattle.house.specs.ReadLaws.{frame_valid, frame_long, rendering_frame, rendering_length, rendering_short, rendering_room, rendering_done}
 use Rattle.house.proofs.read_rendering.Goals as goal
 

@@ -1,5 +1,5 @@
 -- `write_block`: each way out is a case of the definition; a valid block is small. Assumes nothing.
-use Rattle.std.proofs.Common.{◌*◌, arith, rules}
+use Rattle.std.proofs.Common.{◌*◌, arith}
 use Rattle.block.specs.Block.{block}
 use Rattle.house.specs.WriteLaws.{small, block_invalid, block_short, block_written, block_valid, block_need, tables_need}
 use Rattle.house.proofs.write_block.Goals as goal

@@ -1,5 +1,5 @@
 -- `write_rendering`: each way out is a case of the definition. Assumes nothing.
-use Rattle.std.proofs.Common.{◌*◌, arith, rules}
+use Rattle.std.proofs.Common.{◌*◌, arith}
 use Rattle.house.specs.WriteLaws.{rendering_many, rendering_room, rendering_written}
 use Rattle.house.proofs.write_rendering.Goals as goal
 

@@ -1,10 +1,8 @@
 -- `reset`: each way out is one answer of the definition; the three tables are written whole. Assumes nothing.
 use mathlib.Core.Path.{sym, ◌∙◌}
 use mathlib.Core.List.{[]}
-use borrow.Author.Tests.{not-true, not-false}
 use Rattle.memory.specs.SizeLaws.{held}
 use Rattle.memory.specs.CallLaws.{told, reset_invalid, reset_sizes, reset_done}
-use borrow.Author.Rules.{rules}
 use Rattle.memory.proofs.reset.Goals as goal
 
 pub returns-in_default : goal.returns-in_default

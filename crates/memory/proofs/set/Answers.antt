@@ -1,9 +1,7 @@
 -- `set`: each way out is one answer of the definition, in its order. Assumes nothing.
 use mathlib.Core.Path.{sym, ◌∙◌}
 use native.Mathlib.Omega.{arith}
-use borrow.Author.Tests.{not-true, not-false}
 use Rattle.memory.specs.CallLaws.{told, set_invalid, set_sizes, set_unknown, set_outside, set_done}
-use borrow.Author.Rules.{rules}
 use Rattle.memory.proofs.set.Goals as goal
 
 pub returns-in_default : goal.returns-in_default

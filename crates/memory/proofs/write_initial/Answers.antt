@@ -1,10 +1,7 @@
 -- `write_initial`: before turn i the first i words are the initial ones. Assumes nothing.
-use mathlib.Core.Path.{◌≡◌}
-use Prim.Native.Nat.{◌-◌, ◌≤◌}
 use native.Mathlib.Omega.{arith}
 use Rattle.block.specs.Block.{initial}
-use Rattle.tables.specs.Lists.{filled, filled_start, filled_next, filled_last, filled_length}
-use borrow.Author.Rules.{rules}
+use Rattle.tables.specs.Lists.{filled_start, filled_next, filled_last, filled_length}
 use Rattle.memory.proofs.write_initial.Goals as goal
 
 pub loop-i-init : goal.loop-i-init

@@ -1,9 +1,7 @@
 use mathlib.Core.Path.{◌≡◌}
 use Prim.Native.Nat.{◌-◌, ◌≤◌}
-use native.Mathlib.Omega.{arith}
 use Rattle.block.specs.Block.{initial}
-use Rattle.tables.specs.Lists.{filled, filled_start, filled_next, filled_last, filled_length}
-use borrow.Author.Rules.{rules}
+use Rattle.tables.specs.Lists.{filled}
 use Rattle.memory.proofs.write_initial.Given as goal
 
 abbrev pub invariant-loop-i : goal.invariant-loop-i

@@ -2,7 +2,6 @@
 use mathlib.Core.Path.{◌∙◌}
 use native.Mathlib.Omega.{arith}
 use Rattle.plan.specs.ControlShare.{control_share}
-use borrow.Author.Rules.{rules}
 use Rattle.plan.proofs.plan_control.Goals as goal
 
 pub sweep-requires : goal.sweep-requires

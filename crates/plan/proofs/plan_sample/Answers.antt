@@ -1,7 +1,6 @@
 -- `plan_sample`: what each function leaves is what the next one asks for. Assumes nothing.
 use mathlib.Core.Path.{◌∙◌}
 use Rattle.plan.specs.SampleTable.{share_updates, share_canonicals, share_reading, share_chained, sample_share}
-use borrow.Author.Rules.{rules}
 use Rattle.plan.proofs.plan_sample.Goals as goal
 
 pub last_reads-requires : goal.last_reads-requires

@@ -1,7 +1,5 @@
 -- `judge`: each way out is a case of `run_judged`. Assumes nothing.
-use borrow.Author.Tests.{not-true, not-false}
 use Rattle.step_run.specs.CallLaws.{declared, refused_block, short_table, bad_list, sizes_differ, all_fits}
-use borrow.Author.Rules.{rules}
 use Rattle.step_run.proofs.judge.Goals as goal
 
 pub returns-in_default : goal.returns-in_default

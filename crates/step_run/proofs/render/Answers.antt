@@ -1,7 +1,6 @@
 -- `render`: with no sample the expansion alone is written; else the run is played and its steps are control + n × sample. Assumes nothing.
 use Rattle.step_run.specs.CallLaws.{accepted_run, expanded_table, some_steps, playable, none_call, done_call}
 use Rattle.step_run.specs.BudgetLaws.{within_done}
-use borrow.Author.Rules.{rules}
 use Rattle.step_run.proofs.render.Goals as goal
 
 pub expand-requires : goal.expand-requires

@@ -2,7 +2,6 @@
 use mathlib.Core.Path.{sym, ap, ◌∙◌}
 use Rattle.answers.specs.Numbers.{answer_of}
 use Rattle.step_run.specs.CallLaws.{refused_call}
-use borrow.Author.Rules.{rules}
 use Rattle.step_run.proofs.run.Goals as goal
 
 pub returns-in-Refused : goal.returns-in-Refused

@@ -1,6 +1,5 @@
 -- `shorter`: each test is one of the definition, in its order. Assumes nothing.
 use Rattle.step_run.specs.CallLaws.{shorter_expansion, shorter_steps, shorter_instructions, shorter_control, shorter_spills}
-use borrow.Author.Rules.{rules}
 use Rattle.step_run.proofs.shorter.Goals as goal
 
 pub returns-then-expansion-nodes : goal.returns-then-expansion-nodes

@@ -1,7 +1,6 @@
 -- `compare_end`: a sample that both have, or the ends. Assumes nothing.
 use mathlib.Core.Path.{◌∙◌}
 use Rattle.stream.specs.CompareLaws.{end_is, end_sample, end_nothing, end_ends}
-use borrow.Author.Rules.{rules}
 use Rattle.stream.proofs.compare_end.Goals as goal
 
 pub returns-then-comparison-end : goal.returns-then-comparison-end

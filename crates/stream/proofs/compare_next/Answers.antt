@@ -2,7 +2,6 @@
 use mathlib.Core.Path.{◌∙◌}
 use native.Mathlib.Omega.{arith}
 use Rattle.stream.specs.CompareLaws.{pair_is, place_small, more_small, samples_most, pair_kept, pair_found}
-use borrow.Author.Rules.{rules}
 use Rattle.stream.proofs.compare_next.Goals as goal
 
 pub returns-then-comparison-seen : goal.returns-then-comparison-seen

@@ -2,7 +2,6 @@
 use mathlib.Core.Path.{◌∙◌}
 use Rattle.stream.specs.StreamLaws.{next_is}
 use Rattle.stream.specs.Ways.{next_done}
-use borrow.Author.Rules.{rules}
 use Rattle.stream.proofs.next.Goals as goal
 
 pub returns : goal.returns

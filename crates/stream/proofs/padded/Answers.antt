@@ -1,7 +1,6 @@
 -- `padded` is a copy over zeros. Assumes nothing.
 use mathlib.Core.Path.{◌∙◌}
 use Rattle.stream.specs.Written.{padded_is}
-use borrow.Author.Rules.{rules}
 use Rattle.stream.proofs.padded.Goals as goal
 
 pub returns : goal.returns

@@ -2,7 +2,6 @@
 use mathlib.Core.Path.{◌∙◌}
 use Rattle.stream.specs.StreamLaws.{payload_is}
 use Rattle.stream.specs.Ways.{words_none, words_some}
-use borrow.Author.Rules.{rules}
 use Rattle.stream.proofs.payload_words.Goals as goal
 
 pub returns-then-framed-eq0 : goal.returns-then-framed-eq0

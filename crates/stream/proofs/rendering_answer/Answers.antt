@@ -2,7 +2,6 @@
 use mathlib.Core.Path.{◌∙◌}
 use Rattle.stream.specs.StreamLaws.{rendering_is}
 use Rattle.stream.specs.Ways.{rendering_frame, rendering_length, rendering_good}
-use borrow.Author.Rules.{rules}
 use Rattle.stream.proofs.rendering_answer.Goals as goal
 
 pub returns-then-fault-ne0 : goal.returns-then-fault-ne0

@@ -1,6 +1,5 @@
 -- `rendering_block` puts one block of the engine's kind. Assumes nothing.
 use Rattle.stream.specs.Written.{block_written}
-use borrow.Author.Rules.{rules}
 use Rattle.stream.proofs.rendering_block.Goals as goal
 
 pub returns : goal.returns

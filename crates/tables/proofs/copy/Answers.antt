@@ -1,10 +1,8 @@
 -- `copy` meets its contract: before turn i the table `to` is the one at entry with the first i words of `from` over it (specs/Zeros). Assumes nothing.
-use mathlib.Core.Path.{◌≡◌, refl, ◌∙◌}
-use Prim.Native.Nat.{◌-◌, ◌≤◌, min}
+use mathlib.Core.Path.{refl, ◌∙◌}
 use native.Mathlib.Omega.{arith}
-use lib.ListN.{length, take, length-set}
-use borrow.Author.Rules.{rules}
-use Rattle.tables.specs.Zeros.{copied, copied_start, copied_next, copied_end}
+use lib.ListN.{length-set}
+use Rattle.tables.specs.Zeros.{copied_start, copied_next, copied_end}
 use Rattle.tables.proofs.copy.Goals as goal
 
 pub loop-i-init : goal.loop-i-init

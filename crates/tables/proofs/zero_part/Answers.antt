@@ -1,10 +1,8 @@
 -- `zero_part` meets its contract: before turn i the table is the one at entry with the words from `from` to i zeroed (specs/Zeros). Assumes nothing.
-use mathlib.Core.Path.{◌≡◌, refl, ◌∙◌}
-use Prim.Native.Nat.{◌-◌, ◌≤◌, min}
+use mathlib.Core.Path.{refl, ◌∙◌}
 use native.Mathlib.Omega.{arith}
-use lib.ListN.{length, length-set}
-use borrow.Author.Rules.{rules}
-use Rattle.tables.specs.Zeros.{zeroed, zeroed_start, zeroed_next, zeroed_end}
+use lib.ListN.{length-set}
+use Rattle.tables.specs.Zeros.{zeroed_start, zeroed_next, zeroed_end}
 use Rattle.tables.proofs.zero_part.Goals as goal
 
 pub loop-i-init : goal.loop-i-init

@@ -1,9 +1,7 @@
-use mathlib.Core.Path.{◌≡◌, refl, ◌∙◌}
+use mathlib.Core.Path.{◌≡◌}
 use Prim.Native.Nat.{◌-◌, ◌≤◌, min}
-use native.Mathlib.Omega.{arith}
-use lib.ListN.{length, length-set}
-use borrow.Author.Rules.{rules}
-use Rattle.tables.specs.Zeros.{zeroed, zeroed_start, zeroed_next, zeroed_end}
+use lib.ListN.{length}
+use Rattle.tables.specs.Zeros.{zeroed}
 use Rattle.tables.proofs.zero_part.Given as goal
 
 abbrev pub invariant-loop-i : goal.invariant-loop-i

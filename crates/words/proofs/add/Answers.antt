@@ -1,5 +1,5 @@
 -- `words::add` meets its contract: a NaN operand gives the NaN word (`added_nan`); else both words are floats, and `to_word` writes their sum.
-use Rattle.std.proofs.Common.{sym, ◌∙◌, rules}
+use Rattle.std.proofs.Common.{sym, ◌∙◌}
 use Rattle.words.specs.Operations.{float_of, added}
 use Rattle.words.specs.Laws.{added_nan, left_number, right_number}
 use Rattle.words.proofs.add.Goals as goal

@@ -1,5 +1,5 @@
 -- `words::choose` meets its contract: each way out is one arm of `chosen`.
-use Rattle.std.proofs.Common.{sym, ◌∙◌, rules}
+use Rattle.std.proofs.Common.{sym, ◌∙◌}
 use Rattle.words.specs.Operations.{chosen}
 use Rattle.words.proofs.choose.Goals as goal
 

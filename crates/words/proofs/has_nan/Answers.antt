@@ -1,5 +1,5 @@
 -- `words::has_nan` meets its contract: the two tests in turn.
-use Rattle.std.proofs.Common.{sym, ◌∙◌, rules}
+use Rattle.std.proofs.Common.{sym, ◌∙◌}
 use Rattle.words.proofs.has_nan.Goals as goal
 
 pub returns-then-is_nan : goal.returns-then-is_nan

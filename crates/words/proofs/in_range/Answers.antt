@@ -1,6 +1,5 @@
 -- `words::in_range` meets its contract: the floats of the three words, tested.
 use Rattle.words.specs.Operations.{in_range}
-use Rattle.std.proofs.Common.{rules}
 use Rattle.words.proofs.in_range.Goals as goal
 
 pub returns : goal.returns

@@ -1,6 +1,5 @@
 -- `words::is_finite` meets its contract: the float of the word, tested.
 use Rattle.words.specs.Operations.{is_finite}
-use Rattle.std.proofs.Common.{rules}
 use Rattle.words.proofs.is_finite.Goals as goal
 
 pub returns : goal.returns

@@ -1,6 +1,5 @@
 -- `words::is_less` meets its contract: the floats of the two words, compared.
 use Rattle.words.specs.Operations.{is_less}
-use Rattle.std.proofs.Common.{rules}
 use Rattle.words.proofs.is_less.Goals as goal
 
 pub returns : goal.returns

@@ -1,6 +1,5 @@
 -- `words::is_valid_span` meets its contract: each way out decides one test of `valid_span`; the last is `within`.
-use Rattle.std.proofs.Common.{sym, ◌∙◌, rules}
-use borrow.Author.Tests.{not-true, not-false}
+use Rattle.std.proofs.Common.{sym, ◌∙◌}
 use Rattle.words.specs.Operations.{valid_span}
 use Rattle.words.proofs.is_valid_span.Goals as goal
 

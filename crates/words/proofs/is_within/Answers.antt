@@ -1,6 +1,5 @@
 -- `words::is_within` meets its contract: each way out decides one test of `within`.
-use Rattle.std.proofs.Common.{sym, ◌∙◌, rules}
-use borrow.Author.Tests.{not-true, not-false}
+use Rattle.std.proofs.Common.{sym, ◌∙◌}
 use Rattle.words.specs.Operations.{within}
 use Rattle.words.proofs.is_within.Goals as goal
 

@@ -1,6 +1,5 @@
 -- `words::max` meets its contract: `choose` by rhs less than lhs.
 use Rattle.words.specs.Operations.{greater}
-use Rattle.std.proofs.Common.{rules}
 use Rattle.words.proofs.max.Goals as goal
 
 pub returns : goal.returns

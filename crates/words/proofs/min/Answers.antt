@@ -1,6 +1,5 @@
 -- `words::min` meets its contract: `choose` by lhs less than rhs.
 use Rattle.words.specs.Operations.{lesser}
-use Rattle.std.proofs.Common.{rules}
 use Rattle.words.proofs.min.Goals as goal
 
 pub returns : goal.returns

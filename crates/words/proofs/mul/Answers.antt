@@ -1,5 +1,5 @@
 -- `words::mul` meets its contract: a NaN operand gives the NaN word (`multiplied_nan`); else both words are floats, and `to_word` writes their product.
-use Rattle.std.proofs.Common.{sym, ◌∙◌, rules}
+use Rattle.std.proofs.Common.{sym, ◌∙◌}
 use Rattle.words.specs.Operations.{float_of, multiplied}
 use Rattle.words.specs.Laws.{multiplied_nan, left_number, right_number}
 use Rattle.words.proofs.mul.Goals as goal

@@ -1,5 +1,5 @@
 -- `words::neg` meets its contract: below bit 31 it is set, else cleared: the two arms of `negated`.
-use Rattle.std.proofs.Common.{rules, le-ltb, lt-ltb}
+use Rattle.std.proofs.Common.{le-ltb, lt-ltb}
 use Rattle.words.specs.Operations.{negated}
 use Rattle.words.proofs.neg.Goals as goal
 

@@ -1,5 +1,5 @@
 -- `words::operate` meets its contract: each arm calls the operation that the definition names at its code, and at any other code no test of the definition passes.
-use Rattle.std.proofs.Common.{rules, ne_eqb}
+use Rattle.std.proofs.Common.{ne_eqb}
 use Rattle.words.specs.Operations.{operate}
 use Rattle.words.proofs.operate.Goals as goal
 

@@ -1,5 +1,5 @@
 -- `words::sub` meets its contract: a NaN operand gives the NaN word (`subtracted_nan`); else both words are floats, and `to_word` writes their difference.
-use Rattle.std.proofs.Common.{sym, ◌∙◌, rules}
+use Rattle.std.proofs.Common.{sym, ◌∙◌}
 use Rattle.words.specs.Operations.{float_of, subtracted}
 use Rattle.words.specs.Laws.{subtracted_nan, left_number, right_number}
 use Rattle.words.proofs.sub.Goals as goal

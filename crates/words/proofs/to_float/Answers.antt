@@ -1,5 +1,5 @@
 -- `words::to_float` meets its contract: a NaN pattern is NaN, which 0 / 0 is too; any other word is read as it stands.
-use Rattle.std.proofs.Common.{sym, refl, ◌∙◌, rules}
+use Rattle.std.proofs.Common.{sym, refl, ◌∙◌}
 use lib.Ieee.{div, of_bits}
 use Rattle.words.specs.Operations.{float_of}
 use Rattle.words.specs.Laws.{nan_float, number_bits}

@@ -1,6 +1,5 @@
 -- `bring`: an immediate is an instruction, any other source a load. Assumes nothing.
 use Rattle.allocate.specs.DeskLaws.{brought_immediate, brought_load}
-use borrow.Author.Rules.{rules}
 use Rattle.allocate.proofs.fetch.bring.Goals as goal
 
 pub returns-then-code-eq7 : goal.returns-then-code-eq7

@@ -2,7 +2,6 @@
 use native.Mathlib.Omega.{arith}
 use Rattle.allocate.specs.DeskLaws.{fetched_held, fetched_none, fetched_loaded}
 use Rattle.allocate.specs.Ready.{taken_then}
-use borrow.Author.Rules.{rules}
 use Rattle.allocate.proofs.fetch.fetch.Goals as goal
 
 pub overflow_cast-held : goal.overflow_cast-held

@@ -1,7 +1,6 @@
 -- `load`: a slot, or where the value comes from. Assumes nothing.
 use Rattle.allocate.specs.DeskLaws.{loaded_slot, loaded_fresh}
 use Rattle.allocate.specs.Ready.{supply_code}
-use borrow.Author.Rules.{rules}
 use Rattle.allocate.proofs.fetch.load.Goals as goal
 
 pub returns-then-work-fresh-eq0 : goal.returns-then-work-fresh-eq0

@@ -1,7 +1,6 @@
 -- `supply_of`: the control phase, a node with no control slot, and one with. Assumes nothing.
 use borrow.Author.Tests.{eq-eqb, ne_eqb}
 use Rattle.allocate.specs.Desk.{supply_of}
-use borrow.Author.Rules.{rules}
 use Rattle.allocate.proofs.fetch.supply_of.Goals as goal
 
 pub returns-then-frame : goal.returns-then-frame

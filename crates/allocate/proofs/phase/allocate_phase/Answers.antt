@@ -1,13 +1,12 @@
 -- `allocate_phase`: the invariant is that nothing was refused yet and the desk is the one after the tasks so far. Assumes nothing.
-use mathlib.Core.Path.{◌≡◌, ap, ◌∙◌}
+use mathlib.Core.Path.{ap, ◌∙◌}
 use native.Mathlib.Omega.{arith}
-use Prim.Native.Nat.{◌+◌, ◌-◌, ◌≤◌, ◌<◌}
-use Rattle.allocate.specs.Desk.{desk, Choice}
-use Rattle.allocate.specs.Tasks.{lent, ran, ran_to}
+use Prim.Native.Nat.{◌+◌, ◌<◌}
+use Rattle.allocate.specs.Desk.{Choice}
+use Rattle.allocate.specs.Tasks.{ran}
 use Rattle.allocate.specs.TaskArms.{ran_start, ran_next, ended_refused, ended_done}
 use Rattle.allocate.specs.TaskReady.{turn_ready, turn_lengths}
 use Rattle.allocate.specs.Planned.{planned_fewer}
-use borrow.Author.Rules.{rules}
 use Rattle.allocate.proofs.phase.allocate_phase.Goals as goal
 
 pub loop-position-init : goal.loop-position-init

@@ -1,12 +1,7 @@
-use mathlib.Core.Path.{◌≡◌, ap, ◌∙◌}
-use native.Mathlib.Omega.{arith}
-use Prim.Native.Nat.{◌+◌, ◌-◌, ◌≤◌, ◌<◌}
-use Rattle.allocate.specs.Desk.{desk, Choice}
-use Rattle.allocate.specs.Tasks.{lent, ran, ran_to}
-use Rattle.allocate.specs.TaskArms.{ran_start, ran_next, ended_refused, ended_done}
-use Rattle.allocate.specs.TaskReady.{turn_ready, turn_lengths}
-use Rattle.allocate.specs.Planned.{planned_fewer}
-use borrow.Author.Rules.{rules}
+use mathlib.Core.Path.{◌≡◌}
+use Prim.Native.Nat.{◌-◌, ◌≤◌}
+use Rattle.allocate.specs.Desk.{desk}
+use Rattle.allocate.specs.Tasks.{lent, ran_to}
 use Rattle.allocate.proofs.phase.allocate_phase.Given as goal
 
 abbrev pub invariant-loop-position : goal.invariant-loop-position

@@ -1,9 +1,7 @@
 -- `link`: the invariant is what is left to link. Assumes nothing.
 use native.Mathlib.Omega.{arith}
-use Rattle.allocate.specs.Tasks.{lent}
 use Rattle.allocate.specs.Planned.{planned_fewer}
-use Rattle.allocate.specs.Links.{Linking, linking_start, linking_next, linking_end}
-use borrow.Author.Rules.{rules}
+use Rattle.allocate.specs.Links.{linking_start, linking_next, linking_end}
 use Rattle.allocate.proofs.phase.link.Goals as goal
 
 pub loop-position-init : goal.loop-position-init

@@ -1,8 +1,5 @@
-use native.Mathlib.Omega.{arith}
 use Rattle.allocate.specs.Tasks.{lent}
-use Rattle.allocate.specs.Planned.{planned_fewer}
-use Rattle.allocate.specs.Links.{Linking, linking_start, linking_next, linking_end}
-use borrow.Author.Rules.{rules}
+use Rattle.allocate.specs.Links.{Linking}
 use Rattle.allocate.proofs.phase.link.Given as goal
 
 abbrev pub invariant-loop-position : goal.invariant-loop-position

@@ -3,7 +3,6 @@ use mathlib.Core.Path.{refl}
 use native.Mathlib.Omega.{arith}
 use lib.ListN.{length-set}
 use Rattle.allocate.specs.Links.{linked_by}
-use borrow.Author.Rules.{rules}
 use Rattle.allocate.proofs.phase.link_reads.Goals as goal
 
 pub bounds-work-two : goal.bounds-work-two

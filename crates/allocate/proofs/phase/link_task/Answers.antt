@@ -4,7 +4,6 @@ use native.Mathlib.Omega.{arith}
 use Rattle.allocate.specs.declared.Reads.{Reads}
 use Rattle.allocate.specs.Links.{linked_by, linked_at}
 use Rattle.allocate.specs.Planned.{reads_below}
-use borrow.Author.Rules.{rules}
 use Rattle.allocate.proofs.phase.link_task.Goals as goal
 
 pub overflow_cast-task : goal.overflow_cast-task

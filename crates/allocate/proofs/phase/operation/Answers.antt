@@ -4,7 +4,6 @@ use native.Mathlib.Omega.{arith}
 use Rattle.allocate.specs.Desk.{desk}
 use Rattle.allocate.specs.TaskArms.{ran_none, ran_some}
 use Rattle.allocate.specs.TaskReady.{turn_below, turn_asks}
-use borrow.Author.Rules.{rules}
 use Rattle.allocate.proofs.phase.operation.Goals as goal
 
 pub overflow_cast-task : goal.overflow_cast-task

@@ -2,7 +2,6 @@
 use Rattle.allocate.specs.Desk.{desk}
 use Rattle.allocate.specs.TaskArms.{performed_none, performed_some}
 use Rattle.allocate.specs.TaskReady.{advanced_then, arm_then}
-use borrow.Author.Rules.{rules}
 use Rattle.allocate.proofs.phase.perform.Goals as goal
 
 pub arm-chosen-requires : goal.arm-chosen-requires

@@ -1,7 +1,6 @@
 -- `bit`: by computation. Assumes nothing.
 use mathlib.Core.Path.{refl}
 use Rattle.allocate.specs.Registers.{usable_bit}
-use borrow.Author.Rules.{rules}
 use Rattle.allocate.proofs.registers.bit.Goals as goal
 
 pub returns : goal.returns

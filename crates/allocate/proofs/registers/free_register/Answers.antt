@@ -1,9 +1,7 @@
 -- `free_register`: the invariant is the search that is left. Assumes nothing.
-use mathlib.Core.Path.{◌≡◌, refl, sym, ◌∙◌}
+use mathlib.Core.Path.{refl, sym, ◌∙◌}
 use native.Mathlib.Omega.{arith}
-use Prim.Native.Nat.{◌-◌, ◌≤◌}
-use Rattle.allocate.specs.Registers.{free_from, free_hit, free_miss, free_end}
-use borrow.Author.Rules.{rules}
+use Rattle.allocate.specs.Registers.{free_hit, free_miss, free_end}
 use Rattle.allocate.proofs.registers.free_register.Goals as goal
 
 pub loop-r-init : goal.loop-r-init

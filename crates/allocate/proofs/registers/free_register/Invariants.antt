@@ -1,8 +1,6 @@
-use mathlib.Core.Path.{◌≡◌, refl, sym, ◌∙◌}
-use native.Mathlib.Omega.{arith}
+use mathlib.Core.Path.{◌≡◌}
 use Prim.Native.Nat.{◌-◌, ◌≤◌}
-use Rattle.allocate.specs.Registers.{free_from, free_hit, free_miss, free_end}
-use borrow.Author.Rules.{rules}
+use Rattle.allocate.specs.Registers.{free_from}
 use Rattle.allocate.proofs.registers.free_register.Given as goal
 
 abbrev pub invariant-loop-r : goal.invariant-loop-r

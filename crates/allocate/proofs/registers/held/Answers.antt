@@ -1,10 +1,8 @@
 -- `held`: the invariant is the count of the registers so far. Assumes nothing.
 use mathlib.Core.Path.{◌≡◌, refl, ◌∙◌}
 use native.Mathlib.Omega.{arith}
-use Prim.Native.Nat.{◌-◌, ◌≤◌}
 use native.Mathlib.Numerals.{add-one}
 use Rattle.allocate.specs.Registers.{held_of}
-use borrow.Author.Rules.{rules}
 use Rattle.allocate.proofs.registers.held.Goals as goal
 
 pub loop-r-init : goal.loop-r-init

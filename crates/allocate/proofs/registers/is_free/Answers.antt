@@ -1,7 +1,6 @@
 -- `is_free`: a usable register, and another. Assumes nothing.
 use mathlib.Core.Path.{sym, ◌∙◌}
 use Rattle.allocate.specs.Registers.{is_free}
-use borrow.Author.Rules.{rules}
 use Rattle.allocate.proofs.registers.is_free.Goals as goal
 
 pub returns-then-bit : goal.returns-then-bit

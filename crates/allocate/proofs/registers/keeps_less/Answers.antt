@@ -1,7 +1,6 @@
 -- `keeps_less`: the four cases of two nodes that need a spill or none. Assumes nothing.
 use mathlib.Core.Path.{sym, ◌∙◌}
 use Rattle.allocate.specs.Registers.{keeps_less}
-use borrow.Author.Rules.{rules}
 use Rattle.allocate.proofs.registers.keeps_less.Goals as goal
 
 pub returns-then-two : goal.returns-then-two

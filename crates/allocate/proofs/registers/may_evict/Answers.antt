@@ -2,7 +2,6 @@
 use mathlib.Core.Path.{sym, ◌∙◌}
 use borrow.Author.Tests.{eq-eqb, ne_eqb}
 use Rattle.allocate.specs.Registers.{may_evict, may_usable, may_not}
-use borrow.Author.Rules.{rules}
 use Rattle.allocate.proofs.registers.may_evict.Goals as goal
 
 pub returns-then-r-first : goal.returns-then-r-first

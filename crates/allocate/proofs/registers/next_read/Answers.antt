@@ -3,7 +3,6 @@ use Prim.Native.Nat.{◌+◌, ◌*◌}
 use native.Mathlib.Omega.{arith}
 use borrow.Author.Tests.{eq-eqb, ne_eqb}
 use Rattle.allocate.specs.Registers.{next_read}
-use borrow.Author.Rules.{rules}
 use Rattle.allocate.proofs.registers.next_read.Goals as goal
 
 pub returns-then-position-eq0 : goal.returns-then-position-eq0

@@ -1,7 +1,6 @@
 -- `reloadable`: a slot, or memory. Assumes nothing.
 use borrow.Author.Tests.{eq-eqb, ne_eqb}
 use Rattle.allocate.specs.Registers.{reloads}
-use borrow.Author.Rules.{rules}
 use Rattle.allocate.proofs.registers.reloadable.Goals as goal
 
 pub returns-then-work-spilled-eq0 : goal.returns-then-work-spilled-eq0

@@ -1,10 +1,8 @@
 -- `victim`: the invariant is the best register so far. Assumes nothing.
 use mathlib.Core.Path.{◌≡◌, refl, ◌∙◌}
 use native.Mathlib.Omega.{arith}
-use Prim.Native.Nat.{◌-◌, ◌≤◌}
 use native.Mathlib.Numerals.{add-one}
 use Rattle.allocate.specs.Registers.{victim_of}
-use borrow.Author.Rules.{rules}
 use Rattle.allocate.proofs.registers.victim.Goals as goal
 
 pub loop-r-init : goal.loop-r-init

@@ -1,9 +1,6 @@
-use mathlib.Core.Path.{◌≡◌, refl, ◌∙◌}
-use native.Mathlib.Omega.{arith}
+use mathlib.Core.Path.{◌≡◌}
 use Prim.Native.Nat.{◌-◌, ◌≤◌}
-use native.Mathlib.Numerals.{add-one}
 use Rattle.allocate.specs.Registers.{victim_of}
-use borrow.Author.Rules.{rules}
 use Rattle.allocate.proofs.registers.victim.Given as goal
 
 abbrev pub invariant-loop-r : goal.invariant-loop-r

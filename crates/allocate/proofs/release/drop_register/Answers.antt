@@ -1,7 +1,6 @@
 -- `drop_register`: no register, and one. Assumes nothing.
 use native.Mathlib.Omega.{arith}
 use Rattle.allocate.specs.DeskLaws.{register_none, register_dropped}
-use borrow.Author.Rules.{rules}
 use Rattle.allocate.proofs.release.drop_register.Goals as goal
 
 pub returns-then-holder-eq0 : goal.returns-then-holder-eq0

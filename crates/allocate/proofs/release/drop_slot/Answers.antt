@@ -2,7 +2,6 @@
 use native.Mathlib.Omega.{arith}
 use lib.ListN.{length-set}
 use Rattle.allocate.specs.DeskLaws.{slot_none, slot_fixed, slot_freed}
-use borrow.Author.Rules.{rules}
 use Rattle.allocate.proofs.release.drop_slot.Goals as goal
 
 pub returns-then-slot-eq0 : goal.returns-then-slot-eq0

@@ -2,7 +2,6 @@
 use mathlib.Core.List.{[]}
 use Rattle.allocate.specs.DeskLaws.{released_by}
 use Rattle.allocate.specs.Ready.{kept_by, dropped_register_kept}
-use borrow.Author.Rules.{rules}
 use Rattle.allocate.proofs.release.release.Goals as goal
 
 pub drop_slot-requires : goal.drop_slot-requires

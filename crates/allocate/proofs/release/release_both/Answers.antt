@@ -2,7 +2,6 @@
 use mathlib.Core.List.{[]}
 use Rattle.allocate.specs.DeskLaws.{released_both_lem}
 use Rattle.allocate.specs.Ready.{kept_by, released_if_kept}
-use borrow.Author.Rules.{rules}
 use Rattle.allocate.proofs.release.release_both.Goals as goal
 
 pub release_if-requires : goal.release_if-requires

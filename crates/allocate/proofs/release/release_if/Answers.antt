@@ -1,6 +1,5 @@
 -- `release_if`: a value that is not read again, and one that is. Assumes nothing.
 use Rattle.allocate.specs.DeskLaws.{released_last, released_not}
-use borrow.Author.Rules.{rules}
 use Rattle.allocate.proofs.release.release_if.Goals as goal
 
 pub returns-then-work-at-eq0 : goal.returns-then-work-at-eq0

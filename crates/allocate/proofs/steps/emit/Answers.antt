@@ -1,9 +1,8 @@
 -- `emit`: the two words, and one step more. Assumes nothing.
 use mathlib.Core.Path.{ap}
 use mathlib.Core.List.{List}
-use Prim.Native.Nat.{ℕ, ◌+◌, ◌-◌}
+use Prim.Native.Nat.{ℕ, ◌+◌}
 use Rattle.allocate.specs.Desk.{desk, steps_to, emitted}
-use borrow.Author.Rules.{rules}
 use Rattle.allocate.proofs.steps.emit.Goals as goal
 
 pub returns : goal.returns

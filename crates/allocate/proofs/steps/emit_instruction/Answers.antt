@@ -1,6 +1,5 @@
 -- `emit_instruction`: the two words, and the step that computes it. Assumes nothing.
 use Rattle.allocate.specs.DeskLaws.{operated_by}
-use borrow.Author.Rules.{rules}
 use Rattle.allocate.proofs.steps.emit_instruction.Goals as goal
 
 pub returns : goal.returns

@@ -1,7 +1,6 @@
 -- `write_pair`: two stores. Assumes nothing.
 use native.Mathlib.Omega.{arith}
 use lib.ListN.{length-set}
-use borrow.Author.Rules.{rules}
 use Rattle.allocate.proofs.steps.write_pair.Goals as goal
 
 pub bounds-table-next : goal.bounds-table-next

@@ -1,7 +1,6 @@
 -- `evict`: a node that needs no spill, and one that does. Assumes nothing.
 use mathlib.Core.Path.{sym, ◌∙◌}
 use Rattle.allocate.specs.DeskLaws.{evicted_kept_by, evicted_saved}
-use borrow.Author.Rules.{rules}
 use Rattle.allocate.proofs.take.evict.Goals as goal
 
 pub returns-then-reloadable : goal.returns-then-reloadable

@@ -1,7 +1,6 @@
 -- `next_slot`: a new slot, and the last freed. Assumes nothing.
 use borrow.Author.Tests.{eq-eqb, ne_eqb}
 use Rattle.allocate.specs.Desk.{next_slot}
-use borrow.Author.Rules.{rules}
 use Rattle.allocate.proofs.take.next_slot.Goals as goal
 
 pub returns-then-freed-eq0 : goal.returns-then-freed-eq0

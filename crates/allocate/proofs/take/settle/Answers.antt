@@ -2,7 +2,6 @@
 use mathlib.Core.Path.{sym}
 use borrow.Author.Tests.{lt-ltb, le-ltb}
 use Rattle.allocate.specs.Desk.{settled}
-use borrow.Author.Rules.{rules}
 use Rattle.allocate.proofs.take.settle.Goals as goal
 
 pub returns-then-out-count : goal.returns-then-out-count

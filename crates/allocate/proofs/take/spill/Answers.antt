@@ -1,6 +1,5 @@
 -- `spill`: the slot, its word at the node, and the step. Assumes nothing.
 use Rattle.allocate.specs.DeskLaws.{spilt_by}
-use borrow.Author.Rules.{rules}
 use Rattle.allocate.proofs.take.spill.Goals as goal
 
 pub returns : goal.returns

@@ -1,7 +1,6 @@
 -- `take`: a free register, none to be had, and one that is emptied. Assumes nothing.
 use native.Mathlib.Omega.{arith}
 use Rattle.allocate.specs.DeskLaws.{taken_free, taken_none, taken_from_lem}
-use borrow.Author.Rules.{rules}
 use Rattle.allocate.proofs.take.take.Goals as goal
 
 pub returns-then-r-lt16 : goal.returns-then-r-lt16

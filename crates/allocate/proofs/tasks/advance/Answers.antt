@@ -3,7 +3,6 @@ use mathlib.Core.Path.{refl}
 use native.Mathlib.Omega.{arith}
 use lib.ListN.{length-set}
 use Rattle.allocate.specs.Tasks.{advanced}
-use borrow.Author.Rules.{rules}
 use Rattle.allocate.proofs.tasks.advance.Goals as goal
 
 pub bounds-work-rhs : goal.bounds-work-rhs

@@ -1,7 +1,6 @@
 -- `arm`: the three kinds of task. Assumes nothing.
 use native.Mathlib.Omega.{arith}
 use Rattle.allocate.specs.TaskArms.{arm_compute, arm_keep, arm_store}
-use borrow.Author.Rules.{rules}
 use Rattle.allocate.proofs.tasks.arm.Goals as goal
 
 pub compute-requires : goal.compute-requires

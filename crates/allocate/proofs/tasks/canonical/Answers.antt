@@ -1,7 +1,6 @@
 -- `canonical`: one word. Assumes nothing.
 use native.Mathlib.Omega.{arith}
-use Prim.Native.Nat.{◌+◌, ◌*◌, ◌-◌}
-use borrow.Author.Rules.{rules}
+use Prim.Native.Nat.{◌+◌, ◌*◌}
 use Rattle.allocate.proofs.tasks.canonical.Goals as goal
 
 pub overflow_cast-result : goal.overflow_cast-result

@@ -2,7 +2,6 @@
 use native.Mathlib.Omega.{arith}
 use Rattle.allocate.specs.TaskArms.{computed_none, computed_some}
 use Rattle.allocate.specs.TaskReady.{destined_then}
-use borrow.Author.Rules.{rules}
 use Rattle.allocate.proofs.tasks.compute.Goals as goal
 
 pub destination-chosen-requires : goal.destination-chosen-requires

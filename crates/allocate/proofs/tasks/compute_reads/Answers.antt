@@ -2,7 +2,6 @@
 use native.Mathlib.Omega.{arith}
 use borrow.Author.Tests.{lt-ltb, le-ltb}
 use Rattle.allocate.specs.Tasks.{compute_reads}
-use borrow.Author.Rules.{rules}
 use Rattle.allocate.proofs.tasks.compute_reads.Goals as goal
 
 pub overflow_cast-rhs : goal.overflow_cast-rhs

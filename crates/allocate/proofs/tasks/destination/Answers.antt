@@ -1,7 +1,6 @@
 -- `destination`: the first operand dies, the second does, and none. Assumes nothing.
 use native.Mathlib.Omega.{arith}
 use Rattle.allocate.specs.TaskArms.{destined_first, destined_second, destined_taken}
-use borrow.Author.Rules.{rules}
 use Rattle.allocate.proofs.tasks.destination.Goals as goal
 
 pub returns-then-work-lhs-eq0 : goal.returns-then-work-lhs-eq0

@@ -4,7 +4,6 @@ use native.Mathlib.Omega.{arith}
 use Rattle.allocate.specs.TaskArms.{both_none, both_second}
 use Rattle.allocate.specs.Desk.{Choice}
 use Rattle.allocate.specs.Ready.{kept_by, fetched_kept, room_after}
-use borrow.Author.Rules.{rules}
 use Rattle.allocate.proofs.tasks.fetch_both.Goals as goal
 
 pub fetch-one-requires : goal.fetch-one-requires

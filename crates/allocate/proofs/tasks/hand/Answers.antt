@@ -3,7 +3,6 @@ use mathlib.Core.Path.{refl}
 use native.Mathlib.Omega.{arith}
 use lib.ListN.{length-set}
 use Rattle.allocate.specs.Tasks.{handed}
-use borrow.Author.Rules.{rules}
 use Rattle.allocate.proofs.tasks.hand.Goals as goal
 
 pub bounds-work-to : goal.bounds-work-to

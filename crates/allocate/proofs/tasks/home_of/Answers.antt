@@ -11,7 +11,6 @@ use Rattle.allocate.specs.declared.Frame.{Frame}
 use Rattle.allocate.specs.Layout.{home_at}
 use borrow.Author.Tests.{lt-ltb, le-ltb}
 use Rattle.allocate.specs.Tasks.{home_of}
-use borrow.Author.Rules.{rules}
 use Rattle.allocate.proofs.tasks.home_of.Goals as goal
 
 home-output : (frame : Frame) (work : List ℕ) (memory : ℕ) → frame.states + frame.delays ≤ memory

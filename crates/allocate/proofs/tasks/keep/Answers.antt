@@ -1,6 +1,5 @@
 -- `keep`: the step, then the slot's word at the node. Assumes nothing.
 use Rattle.allocate.specs.TaskArms.{stowed_by}
-use borrow.Author.Rules.{rules}
 use Rattle.allocate.proofs.tasks.keep.Goals as goal
 
 pub returns : goal.returns

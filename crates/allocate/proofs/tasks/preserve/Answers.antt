@@ -1,7 +1,6 @@
 -- `preserve`: nothing to preserve in three cases, and a load. Assumes nothing.
 use native.Mathlib.Omega.{arith}
 use Rattle.allocate.specs.TaskArms.{preserved_none, preserved_stale, preserved_last, preserved_loaded}
-use borrow.Author.Rules.{rules}
 use Rattle.allocate.proofs.tasks.preserve.Goals as goal
 
 pub returns-then-home-eq0 : goal.returns-then-home-eq0

@@ -1,7 +1,6 @@
 -- `reads_of`: a computation, and a task of one value. Assumes nothing.
 use borrow.Author.Tests.{lt-ltb, le-ltb}
 use Rattle.allocate.specs.Tasks.{reads_of}
-use borrow.Author.Rules.{rules}
 use Rattle.allocate.proofs.tasks.reads_of.Goals as goal
 
 pub compute_reads-requires : goal.compute_reads-requires

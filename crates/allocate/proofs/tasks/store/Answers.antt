@@ -1,9 +1,8 @@
 -- `store`: an old value without a register, and the write. Assumes nothing.
 use native.Mathlib.Omega.{arith}
-use Prim.Native.Nat.{◌-◌, ◌≤◌}
+use Prim.Native.Nat.{◌≤◌}
 use Rattle.allocate.specs.TaskArms.{stored_none, stored_some}
 use Rattle.allocate.specs.TaskReady.{preserved_then}
-use borrow.Author.Rules.{rules}
 use Rattle.allocate.proofs.tasks.store.Goals as goal
 
 pub preserve-chosen-requires : goal.preserve-chosen-requires

@@ -2,7 +2,6 @@
 use native.Mathlib.Omega.{arith}
 use borrow.Author.Tests.{lt-ltb, le-ltb}
 use Rattle.allocate.specs.Tasks.{target_of}
-use borrow.Author.Rules.{rules}
 use Rattle.allocate.proofs.tasks.target_of.Goals as goal
 
 pub returns-then-memory-states : goal.returns-then-memory-states

@@ -1,7 +1,6 @@
 -- `value_of`: a kept value, a state's, a delay's and the output's. Assumes nothing.
 use borrow.Author.Tests.{lt-ltb, le-ltb}
 use Rattle.allocate.specs.Tasks.{value_of}
-use borrow.Author.Rules.{rules}
 use Rattle.allocate.proofs.tasks.value_of.Goals as goal
 
 pub returns-then-task-nodes : goal.returns-then-task-nodes

@@ -1,6 +1,5 @@
 -- `write`: with and without a node that reads what is overwritten. Assumes nothing.
 use Rattle.allocate.specs.TaskArms.{written_none, written_home}
-use borrow.Author.Rules.{rules}
 use Rattle.allocate.proofs.tasks.write.Goals as goal
 
 pub returns-then-home-eq0 : goal.returns-then-home-eq0

@@ -1,10 +1,7 @@
 -- `expanded_length`: the total is the offset of node i and within the limit; past it every longer table counts the same.
-use borrow.Author.Rules.{rules}
-use mathlib.Core.Path.{◌≡◌, sym}
+use mathlib.Core.Path.{sym}
 use native.Mathlib.Omega.{arith}
-use Prim.Native.Nat.{◌-◌, ◌≤◌}
 use Rattle.tables.specs.Loops.{sum_start}
-use Rattle.block.specs.Kinds.{tanh_steps, offset}
 use Rattle.block.specs.KindLaws.{length_most, length_stop, length_turn, length_end}
 use Rattle.block.proofs.kinds.expanded_length.Goals as goal
 

@@ -1,10 +1,6 @@
-use borrow.Author.Rules.{rules}
-use mathlib.Core.Path.{◌≡◌, sym}
-use native.Mathlib.Omega.{arith}
+use mathlib.Core.Path.{◌≡◌}
 use Prim.Native.Nat.{◌-◌, ◌≤◌}
-use Rattle.tables.specs.Loops.{sum_start}
 use Rattle.block.specs.Kinds.{tanh_steps, offset}
-use Rattle.block.specs.KindLaws.{length_most, length_stop, length_turn, length_end}
 use Rattle.block.proofs.kinds.expanded_length.Given as goal
 
 abbrev pub invariant-loop-i : goal.invariant-loop-i

@@ -1,5 +1,4 @@
 -- `length_of`: in each arm the kind is that arm's, whose length computes.
-use borrow.Author.Rules.{rules}
 use Rattle.block.proofs.kinds.length_of.Goals as goal
 
 pub returns-in-Divide : goal.returns-in-Divide

@@ -1,5 +1,4 @@
 -- `bad_content`: in each arm the kind is that arm's, whose test computes.
-use borrow.Author.Rules.{rules}
 use Rattle.block.proofs.rules.bad_content.Goals as goal
 
 pub returns-in-Constant : goal.returns-in-Constant

@@ -1,5 +1,4 @@
 -- `bad_state`: the tests in their order.
-use borrow.Author.Rules.{rules}
 use mathlib.Core.Path.{sym}
 use Rattle.block.proofs.rules.bad_state.Goals as goal
 

@@ -1,5 +1,4 @@
 -- `malformed_words`: in each arm the kind is that arm's, whose unused words compute.
-use borrow.Author.Rules.{rules}
 use Rattle.block.proofs.rules.malformed_words.Goals as goal
 
 pub returns-in-Source : goal.returns-in-Source

@@ -1,14 +1,9 @@
 -- `first_bad_delay`: every delay below i is accepted, and the total is theirs and within the limit, so one word more does not wrap.
-use borrow.Author.Rules.{rules}
-use mathlib.Core.Path.{◌≡◌, sym, ◌∙◌}
+use mathlib.Core.Path.{sym, ◌∙◌}
 use native.Mathlib.Omega.{arith}
-use Prim.Native.Nat.{◌-◌, ◌≤◌, ◌*◌}
-use Rattle.answers.specs.Numbers.{accepted}
-use Rattle.answers.specs.Order.{in_order}
+use Prim.Native.Nat.{◌*◌}
 use Rattle.answers.specs.OrderLaws.{in_order_start, in_order_next, in_order_stop, in_order_end}
-use Rattle.tables.specs.Loops.{sum, sum_start, sum_turn}
-use Rattle.block.specs.Block.{delay_length}
-use Rattle.block.specs.Validation.{delay_answer}
+use Rattle.tables.specs.Loops.{sum_start, sum_turn}
 use Rattle.block.specs.Parts.{delay_stop, delay_pass, delay_low}
 use Rattle.block.proofs.scans.first_bad_delay.Goals as goal
 

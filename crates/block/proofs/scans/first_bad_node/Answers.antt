@@ -1,13 +1,9 @@
 -- `first_bad_node`: every node below i is accepted, and the first refusal is handed on; the limit makes its index a word.
-use borrow.Author.Rules.{rules}
-use mathlib.Core.Path.{◌≡◌, sym, ap, ◌∙◌}
+use mathlib.Core.Path.{sym, ap, ◌∙◌}
 use native.Mathlib.Omega.{arith}
-use Prim.Native.Nat.{◌-◌, ◌≤◌}
-use Rattle.answers.specs.Numbers.{accepted, answer_of}
-use Rattle.answers.specs.Order.{in_order}
+use Rattle.answers.specs.Numbers.{answer_of}
 use Rattle.answers.specs.OrderLaws.{in_order_start, in_order_next, in_order_end, in_order_hand_on}
-use Rattle.block.specs.Validation.{node_answer}
-use Rattle.block.specs.Parts.{counts, node_is}
+use Rattle.block.specs.Parts.{node_is}
 use Rattle.block.proofs.scans.first_bad_node.Goals as goal
 
 pub loop-i-init : goal.loop-i-init

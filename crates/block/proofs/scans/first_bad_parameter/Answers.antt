@@ -1,10 +1,6 @@
 -- `first_bad_parameter`: every parameter below i is accepted; the limit makes its index a word.
-use borrow.Author.Rules.{rules}
-use mathlib.Core.Path.{◌≡◌, sym}
+use mathlib.Core.Path.{sym}
 use native.Mathlib.Omega.{arith}
-use Prim.Native.Nat.{◌-◌, ◌≤◌}
-use Rattle.answers.specs.Numbers.{accepted}
-use Rattle.answers.specs.Order.{in_order}
 use Rattle.answers.specs.OrderLaws.{in_order_start, in_order_next, in_order_stop, in_order_end, refuse_at_on, refuse_at_off}
 use Rattle.block.specs.Validation.{parameter_answer}
 use Rattle.block.proofs.scans.first_bad_parameter.Goals as goal

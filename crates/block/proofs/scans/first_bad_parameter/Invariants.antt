@@ -1,10 +1,7 @@
-use borrow.Author.Rules.{rules}
-use mathlib.Core.Path.{◌≡◌, sym}
-use native.Mathlib.Omega.{arith}
+use mathlib.Core.Path.{◌≡◌}
 use Prim.Native.Nat.{◌-◌, ◌≤◌}
 use Rattle.answers.specs.Numbers.{accepted}
 use Rattle.answers.specs.Order.{in_order}
-use Rattle.answers.specs.OrderLaws.{in_order_start, in_order_next, in_order_stop, in_order_end, refuse_at_on, refuse_at_off}
 use Rattle.block.specs.Validation.{parameter_answer}
 use Rattle.block.proofs.scans.first_bad_parameter.Given as goal
 

@@ -1,5 +1,4 @@
 -- `node_verdict`: 9, else 10, else neither.
-use borrow.Author.Rules.{rules}
 use mathlib.Core.Path.{sym, ◌∙◌}
 use Rattle.answers.specs.OrderLaws.{then_stop, then_pass, refuse_at_on, refuse_at_off}
 use Rattle.block.specs.Validation.{words_answer}

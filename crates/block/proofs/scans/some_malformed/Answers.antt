@@ -1,10 +1,7 @@
 -- `some_malformed`: no node below i is malformed.
-use borrow.Author.Rules.{rules}
-use mathlib.Core.Path.{◌≡◌, sym, ◌∙◌}
+use mathlib.Core.Path.{sym, ◌∙◌}
 use native.Mathlib.Omega.{arith}
-use Prim.Native.Nat.{◌-◌, ◌≤◌}
-use mathlib.Core.Bool.{false}
-use Rattle.tables.specs.Loops.{some, some_start, some_stop, some_next, some_end}
+use Rattle.tables.specs.Loops.{some_start, some_stop, some_next, some_end}
 use Rattle.block.specs.Validation.{malformed_node}
 use Rattle.block.proofs.scans.some_malformed.Goals as goal
 

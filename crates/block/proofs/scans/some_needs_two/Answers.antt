@@ -1,11 +1,7 @@
 -- `some_needs_two`: no node below i needs version 2.
-use borrow.Author.Rules.{rules}
-use mathlib.Core.Path.{◌≡◌, sym, ◌∙◌}
+use mathlib.Core.Path.{sym, ◌∙◌}
 use native.Mathlib.Omega.{arith}
-use Prim.Native.Nat.{◌-◌, ◌≤◌}
-use mathlib.Core.Bool.{false}
-use Rattle.tables.specs.Loops.{some, some_start, some_stop, some_next, some_end}
-use Rattle.block.specs.Validation.{node_needs_two}
+use Rattle.tables.specs.Loops.{some_start, some_stop, some_next, some_end}
 use Rattle.block.proofs.scans.some_needs_two.Goals as goal
 
 pub loop-i-init : goal.loop-i-init

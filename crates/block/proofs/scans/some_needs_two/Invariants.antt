@@ -1,9 +1,7 @@
-use borrow.Author.Rules.{rules}
-use mathlib.Core.Path.{◌≡◌, sym, ◌∙◌}
-use native.Mathlib.Omega.{arith}
+use mathlib.Core.Path.{◌≡◌}
 use Prim.Native.Nat.{◌-◌, ◌≤◌}
 use mathlib.Core.Bool.{false}
-use Rattle.tables.specs.Loops.{some, some_start, some_stop, some_next, some_end}
+use Rattle.tables.specs.Loops.{some}
 use Rattle.block.specs.Validation.{node_needs_two}
 use Rattle.block.proofs.scans.some_needs_two.Given as goal
 

@@ -1,12 +1,8 @@
 -- `some_network`: no node below i reads the network.
-use borrow.Author.Rules.{rules}
-use mathlib.Core.Path.{◌≡◌, sym}
+use mathlib.Core.Path.{sym}
 use borrow.Author.Tests.{eq-eqb, ne_eqb}
 use native.Mathlib.Omega.{arith}
-use Prim.Native.Nat.{◌-◌, ◌≤◌}
-use mathlib.Core.Bool.{false}
-use Rattle.tables.specs.Loops.{some, some_start, some_stop, some_next, some_end}
-use Rattle.block.specs.Validation.{reads_network}
+use Rattle.tables.specs.Loops.{some_start, some_stop, some_next, some_end}
 use Rattle.block.proofs.scans.some_network.Goals as goal
 
 pub loop-i-init : goal.loop-i-init

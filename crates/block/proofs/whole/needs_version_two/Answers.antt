@@ -1,5 +1,4 @@
 -- `needs_version_two`: the tests in their order.
-use borrow.Author.Rules.{rules}
 use mathlib.Core.Path.{sym}
 use borrow.Author.Tests.{eq-eqb, ne_eqb}
 use Rattle.block.proofs.whole.needs_version_two.Goals as goal

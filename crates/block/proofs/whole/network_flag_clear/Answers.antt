@@ -1,5 +1,4 @@
 -- `network_flag_clear`: the tests in their order.
-use borrow.Author.Rules.{rules}
 use borrow.Author.Tests.{eq-eqb, ne_eqb}
 use Rattle.block.proofs.whole.network_flag_clear.Goals as goal
 

@@ -1,5 +1,4 @@
 -- `too_large`: the tests in their order; the length counted up to one past the limit decides as the length does.
-use borrow.Author.Rules.{rules}
 use borrow.Author.Tests.{lt-ltb, le-ltb}
 use Rattle.block.specs.KindLaws.{length_over, length_within}
 use Rattle.block.proofs.whole.too_large.Goals as goal

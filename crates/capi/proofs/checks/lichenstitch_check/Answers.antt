@@ -1,6 +1,5 @@
 -- `lichenstitch_check`: the outcome of `check`, and its verdict crosses by `cross`.
 use Rattle.capi.specs.Runs.{check_crosses}
-use borrow.Author.Rules.{rules}
 use Rattle.capi.proofs.checks.lichenstitch_check.Goals as goal
 
 pub returns : goal.returns

@@ -1,6 +1,5 @@
 -- `lichenstitch_checked_run`: short registers are refused; else sixteen words go in, `checked_run` does the call, and its registers go back over the first words.
 use Rattle.capi.specs.CheckedRuns.{short_checked, checked_crosses}
-use borrow.Author.Rules.{rules}
 use Rattle.capi.proofs.checks.lichenstitch_checked_run.Goals as goal
 
 pub returns-then-registers-lt16 : goal.returns-then-registers-lt16

@@ -1,6 +1,5 @@
 -- `accept_kernel`: six words are put, one after the other.
 use Rattle.capi.specs.Compiles.{kernel_put}
-use borrow.Author.Rules.{rules}
 use Rattle.capi.proofs.compiles.accept_kernel.Goals as goal
 
 pub returns : goal.returns

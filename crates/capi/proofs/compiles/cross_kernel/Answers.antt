@@ -1,6 +1,5 @@
 -- `cross_kernel`: a kernel is written out by `accept_kernel`, a refusal by `refuse`.
 use Rattle.capi.specs.Compiles.{kernel_crosses}
-use borrow.Author.Rules.{rules}
 use Rattle.capi.proofs.compiles.cross_kernel.Goals as goal
 
 pub returns-in-Accepted : goal.returns-in-Accepted

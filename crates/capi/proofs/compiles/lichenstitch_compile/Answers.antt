@@ -1,6 +1,5 @@
 -- `lichenstitch_compile`: the outcome of `compile`, and its answer crosses by `cross_kernel`.
 use Rattle.capi.specs.Compiles.{compile_crosses}
-use borrow.Author.Rules.{rules}
 use Rattle.capi.proofs.compiles.lichenstitch_compile.Goals as goal
 
 pub returns : goal.returns

@@ -3,7 +3,6 @@ use mathlib.Core.Path.{ap, ◌∙◌}
 use Prim.Native.Nat.{ℕ}
 use lib.ListN.{set}
 use Rattle.capi.specs.Crossing.{crossing}
-use borrow.Author.Rules.{rules}
 use Rattle.capi.proofs.files.accept_rendering.Goals as goal
 
 pub returns : goal.returns

@@ -1,6 +1,5 @@
 -- `cross_contents`: what was read is written out by `accept_contents`, a refusal by `refuse`.
 use Rattle.capi.specs.Files.{contents_cross}
-use borrow.Author.Rules.{rules}
 use Rattle.capi.proofs.files.cross_contents.Goals as goal
 
 pub returns-in-Read : goal.returns-in-Read

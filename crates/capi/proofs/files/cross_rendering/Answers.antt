@@ -1,6 +1,5 @@
 -- `cross_rendering`: what was read is written out by `accept_rendering`, a refusal by `refuse`.
 use Rattle.capi.specs.Files.{rendering_crosses}
-use borrow.Author.Rules.{rules}
 use Rattle.capi.proofs.files.cross_rendering.Goals as goal
 
 pub returns-in-Read : goal.returns-in-Read

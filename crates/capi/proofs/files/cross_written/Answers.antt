@@ -1,6 +1,5 @@
 -- `cross_written`: the number of bytes is written out by `accept_bytes`, a refusal by `refuse`.
 use Rattle.capi.specs.Files.{written_crosses}
-use borrow.Author.Rules.{rules}
 use Rattle.capi.proofs.files.cross_written.Goals as goal
 
 pub returns-in-Bytes : goal.returns-in-Bytes

@@ -1,6 +1,5 @@
 -- `lichenstitch_read_block`: the outcome of `read_block`, and its answer crosses by `cross_contents`.
 use Rattle.capi.specs.Files.{block_read_crosses}
-use borrow.Author.Rules.{rules}
 use Rattle.capi.proofs.files.lichenstitch_read_block.Goals as goal
 
 pub returns : goal.returns

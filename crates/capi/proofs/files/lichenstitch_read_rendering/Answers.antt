@@ -1,6 +1,5 @@
 -- `lichenstitch_read_rendering`: the outcome of `read_rendering`, and its answer crosses by `cross_rendering`.
 use Rattle.capi.specs.Files.{rendering_read_crosses}
-use borrow.Author.Rules.{rules}
 use Rattle.capi.proofs.files.lichenstitch_read_rendering.Goals as goal
 
 pub returns : goal.returns

@@ -1,6 +1,5 @@
 -- `lichenstitch_write_block`: the outcome of `write_block`, and its answer crosses by `cross_written`.
 use Rattle.capi.specs.Files.{file_crosses}
-use borrow.Author.Rules.{rules}
 use Rattle.capi.proofs.files.lichenstitch_write_block.Goals as goal
 
 pub returns : goal.returns

@@ -1,6 +1,5 @@
 -- `lichenstitch_write_graph_rendering`: the outcome of `write_rendering`, and its answer crosses by `cross_written`.
 use Rattle.capi.specs.Files.{file_crosses}
-use borrow.Author.Rules.{rules}
 use Rattle.capi.proofs.files.lichenstitch_write_graph_rendering.Goals as goal
 
 pub returns : goal.returns

@@ -1,5 +1,4 @@
 -- `cross`: a valid verdict is 0 and leaves the lent words, a refusal is written out by `refuse`.
-use borrow.Author.Rules.{rules}
 use mathlib.Core.Path.{refl}
 use Rattle.capi.specs.Crossing.{verdict_crosses}
 use Rattle.capi.proofs.runs.cross.Goals as goal

@@ -1,5 +1,4 @@
 -- `cross_done`: an accepted run is written out by `accept`, a refusal by `refuse`.
-use borrow.Author.Rules.{rules}
 use Rattle.capi.specs.Runs.{done_crosses}
 use Rattle.capi.proofs.runs.cross_done.Goals as goal
 

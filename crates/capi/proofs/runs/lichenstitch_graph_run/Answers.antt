@@ -1,5 +1,4 @@
 -- `lichenstitch_graph_run`: the outcome of `run`, and its verdict crosses by `cross`.
-use borrow.Author.Rules.{rules}
 use Rattle.capi.specs.Runs.{graph_crosses}
 use Rattle.capi.proofs.runs.lichenstitch_graph_run.Goals as goal
 

@@ -1,5 +1,4 @@
 -- `lichenstitch_reset`: the outcome of `reset`, and its verdict crosses by `cross`.
-use borrow.Author.Rules.{rules}
 use Rattle.capi.specs.Runs.{reset_crosses}
 use Rattle.capi.proofs.runs.lichenstitch_reset.Goals as goal
 

@@ -1,5 +1,4 @@
 -- `lichenstitch_set`: the outcome of `set`, and its verdict crosses by `cross`.
-use borrow.Author.Rules.{rules}
 use Rattle.capi.specs.Runs.{set_crosses}
 use Rattle.capi.proofs.runs.lichenstitch_set.Goals as goal
 

@@ -1,5 +1,4 @@
 -- `lichenstitch_step_run`: short registers are refused; else sixteen words go in, `run` does the call, and its registers go back over the first words.
-use borrow.Author.Rules.{rules}
 use Rattle.capi.specs.Runs.{short_crosses, steps_cross}
 use Rattle.capi.proofs.runs.lichenstitch_step_run.Goals as goal
 

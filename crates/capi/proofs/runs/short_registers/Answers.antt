@@ -1,5 +1,4 @@
 -- `short_registers`: what is wrong with the block is handed on; a valid one is refused by 13.
-use borrow.Author.Rules.{rules}
 use Rattle.capi.specs.Runs.{short_handed_on, short_of_valid}
 use Rattle.capi.proofs.runs.short_registers.Goals as goal
 

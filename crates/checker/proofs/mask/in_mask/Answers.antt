@@ -3,7 +3,6 @@ use Rattle.checker.specs.Walk.{in_mask}
 use mathlib.Core.Path.{sym}
 use Rattle.tables.specs.Tests.{&_next, &_left}
 use borrow.Author.Tests.{lt-ltb, le-ltb}
-use borrow.Author.Rules.{rules}
 use Rattle.checker.proofs.mask.in_mask.Goals as goal
 
 pub returns-then-register-lt16 : goal.returns-then-register-lt16

@@ -1,5 +1,4 @@
 -- `instruction_in_mask`: each arm asks for the registers of its instruction. Assumes nothing.
-use borrow.Author.Rules.{rules}
 use Rattle.checker.proofs.mask.instruction_in_mask.Goals as goal
 
 pub returns-in-Immediate : goal.returns-in-Immediate

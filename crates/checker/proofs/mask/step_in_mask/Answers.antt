@@ -1,5 +1,4 @@
 -- `step_in_mask`: each arm asks for the registers of its step. Assumes nothing.
-use borrow.Author.Rules.{rules}
 use Rattle.checker.proofs.mask.step_in_mask.Goals as goal
 
 pub returns-in-Load : goal.returns-in-Load

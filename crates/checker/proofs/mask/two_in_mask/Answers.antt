@@ -1,7 +1,6 @@
 -- `two_in_mask`: the first decides, or the second. Assumes nothing.
 use mathlib.Core.Path.{sym, ◌∙◌}
 use Rattle.tables.specs.Tests.{&_next, &_left}
-use borrow.Author.Rules.{rules}
 use Rattle.checker.proofs.mask.two_in_mask.Goals as goal
 
 pub returns-then-in_mask : goal.returns-then-in_mask

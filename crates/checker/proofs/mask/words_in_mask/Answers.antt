@@ -1,5 +1,4 @@
 -- `words_in_mask`: a well formed instruction decides. Assumes nothing.
-use borrow.Author.Rules.{rules}
 use Rattle.checker.proofs.mask.words_in_mask.Goals as goal
 
 pub returns-in-Formed : goal.returns-in-Formed

@@ -1,6 +1,5 @@
 -- `asked`: no update asks for nothing. Assumes nothing.
 use Rattle.checker.specs.MoveLaws.{asked_nobody, asked_one}
-use borrow.Author.Rules.{rules}
 use Rattle.checker.proofs.moves.asked.Goals as goal
 
 pub returns-then-update-eq0 : goal.returns-then-update-eq0

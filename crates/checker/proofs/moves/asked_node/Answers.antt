@@ -1,7 +1,6 @@
 -- `asked_node`: the register must hold the node's own class, which the index keeps. Assumes nothing.
 use native.Mathlib.Omega.{arith}
 use Rattle.checker.specs.MoveLaws.{asked_empty, asked_same, asked_other}
-use borrow.Author.Rules.{rules}
 use Rattle.checker.proofs.moves.asked_node.Goals as goal
 
 pub returns-then-class-eq0 : goal.returns-then-class-eq0

@@ -1,5 +1,4 @@
 -- `computed_class`: each arm finds the class of its instruction's node. Assumes nothing.
-use borrow.Author.Rules.{rules}
 use Rattle.checker.proofs.moves.computed_class.Goals as goal
 
 pub returns-in-Immediate : goal.returns-in-Immediate

@@ -1,5 +1,4 @@
 -- `delay_class`: what is asked for, unless the delay is stored already. Assumes nothing.
-use borrow.Author.Rules.{rules}
 use Rattle.checker.proofs.moves.delay_class.Goals as goal
 
 pub returns : goal.returns

@@ -1,6 +1,5 @@
 -- `fetched`: the index finds the node. Assumes nothing.
 use Rattle.checker.specs.Walk.{fetched}
-use borrow.Author.Rules.{rules}
 use Rattle.checker.proofs.moves.fetched.Goals as goal
 
 pub returns : goal.returns

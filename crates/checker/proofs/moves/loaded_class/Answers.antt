@@ -1,5 +1,4 @@
 -- `loaded_class`: each arm finds the class of its source. Assumes nothing.
-use borrow.Author.Rules.{rules}
 use Rattle.checker.proofs.moves.loaded_class.Goals as goal
 
 pub returns-in-Audio : goal.returns-in-Audio

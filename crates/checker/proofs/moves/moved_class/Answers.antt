@@ -1,5 +1,4 @@
 -- `moved_class`: each arm finds the class that its step moves. Assumes nothing.
-use borrow.Author.Rules.{rules}
 use Rattle.checker.proofs.moves.moved_class.Goals as goal
 
 pub returns-in-Load : goal.returns-in-Load

@@ -1,6 +1,5 @@
 -- `result_of_one`: an empty register gives 0, else the index finds the class. Assumes nothing.
 use Rattle.checker.specs.MoveLaws.{one_none, one_found}
-use borrow.Author.Rules.{rules}
 use Rattle.checker.proofs.moves.result_of_one.Goals as goal
 
 pub returns-then-x-eq0 : goal.returns-then-x-eq0

@@ -1,6 +1,5 @@
 -- `result_of_two`: an empty register gives 0, else the index finds the class. Assumes nothing.
 use Rattle.checker.specs.MoveLaws.{two_left, two_right, two_found}
-use borrow.Author.Rules.{rules}
 use Rattle.checker.proofs.moves.result_of_two.Goals as goal
 
 pub returns-then-x-eq0 : goal.returns-then-x-eq0

@@ -1,5 +1,4 @@
 -- `state_class`: what is asked for, unless the state is stored already. Assumes nothing.
-use borrow.Author.Rules.{rules}
 use Rattle.checker.proofs.moves.state_class.Goals as goal
 
 pub returns : goal.returns

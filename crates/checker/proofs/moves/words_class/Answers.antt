@@ -1,5 +1,4 @@
 -- `words_class`: a malformed instruction gives 0. Assumes nothing.
-use borrow.Author.Rules.{rules}
 use Rattle.checker.proofs.moves.words_class.Goals as goal
 
 pub returns-in-Formed : goal.returns-in-Formed

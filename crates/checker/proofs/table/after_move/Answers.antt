@@ -1,5 +1,4 @@
 -- `after_move`: each arm stores where the definition says. Assumes nothing.
-use borrow.Author.Rules.{rules}
 use Rattle.checker.proofs.table.after_move.Goals as goal
 
 pub returns-in-Load : goal.returns-in-Load

@@ -1,6 +1,5 @@
 -- `control_at`: the region of the control slots. Assumes nothing.
 use Rattle.checker.specs.Table.{held_of}
-use borrow.Author.Rules.{rules}
 use Rattle.checker.proofs.table.control_at.Goals as goal
 
 pub returns : goal.returns

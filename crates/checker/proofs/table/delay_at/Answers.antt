@@ -1,6 +1,5 @@
 -- `delay_at`: the region of the delays' flags. Assumes nothing.
 use Rattle.checker.specs.Table.{held_of}
-use borrow.Author.Rules.{rules}
 use Rattle.checker.proofs.table.delay_at.Goals as goal
 
 pub returns : goal.returns

@@ -1,5 +1,4 @@
 -- `instruction_at`: the two words of the table, read as an instruction. Assumes nothing.
-use borrow.Author.Rules.{rules}
 use Rattle.checker.proofs.table.instruction_at.Goals as goal
 
 pub returns : goal.returns

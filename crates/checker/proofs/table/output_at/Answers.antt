@@ -1,6 +1,5 @@
 -- `output_at`: the output's flag. Assumes nothing.
 use Rattle.checker.specs.Table.{held_of}
-use borrow.Author.Rules.{rules}
 use Rattle.checker.proofs.table.output_at.Goals as goal
 
 pub returns : goal.returns

@@ -1,6 +1,5 @@
 -- `put_in`: past the region nothing is stored. Assumes nothing.
 use Rattle.checker.specs.TableLaws.{put_inside, put_past}
-use borrow.Author.Rules.{rules}
 use Rattle.checker.proofs.table.put_in.Goals as goal
 
 pub returns-then-i-count : goal.returns-then-i-count

@@ -1,5 +1,4 @@
 -- `put_result`: the destination of a well formed instruction is set. Assumes nothing.
-use borrow.Author.Rules.{rules}
 use Rattle.checker.proofs.table.put_result.Goals as goal
 
 pub returns-in-Formed : goal.returns-in-Formed

@@ -1,6 +1,5 @@
 -- `read_in`: a place past the region reads as 0. Assumes nothing.
 use Rattle.checker.specs.TableLaws.{read_inside, read_past}
-use borrow.Author.Rules.{rules}
 use Rattle.checker.proofs.table.read_in.Goals as goal
 
 pub returns-then-i-count : goal.returns-then-i-count

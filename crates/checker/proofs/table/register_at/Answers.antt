@@ -1,6 +1,5 @@
 -- `register_at`: the region of the registers. Assumes nothing.
 use Rattle.checker.specs.Table.{held_of}
-use borrow.Author.Rules.{rules}
 use Rattle.checker.proofs.table.register_at.Goals as goal
 
 pub returns : goal.returns

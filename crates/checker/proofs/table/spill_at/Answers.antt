@@ -1,6 +1,5 @@
 -- `spill_at`: the region of the spill slots. Assumes nothing.
 use Rattle.checker.specs.Table.{held_of}
-use borrow.Author.Rules.{rules}
 use Rattle.checker.proofs.table.spill_at.Goals as goal
 
 pub returns : goal.returns

@@ -1,6 +1,5 @@
 -- `state_at`: the region of the states' flags. Assumes nothing.
 use Rattle.checker.specs.Table.{held_of}
-use borrow.Author.Rules.{rules}
 use Rattle.checker.proofs.table.state_at.Goals as goal
 
 pub returns : goal.returns

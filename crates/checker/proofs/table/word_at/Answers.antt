@@ -1,6 +1,5 @@
 -- `word_at`: a place past the table reads as 0. Assumes nothing.
 use Rattle.checker.specs.TableLaws.{word_past}
-use borrow.Author.Rules.{rules}
 use Rattle.checker.proofs.table.word_at.Goals as goal
 
 pub returns : goal.returns

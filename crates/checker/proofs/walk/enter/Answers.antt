@@ -1,6 +1,5 @@
 -- `enter`: the two zeroed parts are those of `entered_table`. Assumes nothing.
 use Rattle.checker.specs.WalkLaws.{entered_is}
-use borrow.Author.Rules.{rules}
 use Rattle.checker.proofs.walk.enter.Goals as goal
 
 pub returns : goal.returns

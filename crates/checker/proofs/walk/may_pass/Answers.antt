@@ -1,6 +1,5 @@
 -- `may_pass`: each test is one of the definition, in its order. Assumes nothing.
 use Rattle.checker.specs.WalkLaws.{pass_run, pass_mask, pass_last}
-use borrow.Author.Rules.{rules}
 use mathlib.Core.Path.{ap}
 use mathlib.Core.Bool.{not}
 use Rattle.checker.proofs.walk.may_pass.Goals as goal

@@ -1,6 +1,5 @@
 -- `nothing_missing`: each test is one of the definition, in its order. Assumes nothing.
 use Rattle.checker.specs.WalkLaws.{misses_state, misses_delay, misses_output}
-use borrow.Author.Rules.{rules}
 use mathlib.Core.Path.{ap}
 use mathlib.Core.Bool.{not}
 use Rattle.checker.proofs.walk.nothing_missing.Goals as goal

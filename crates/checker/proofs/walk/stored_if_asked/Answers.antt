@@ -1,15 +1,8 @@
 -- `stored_if_asked`: the loop's invariant is that everything before i is fulfilled; an early return has found what is not. Assumes nothing.
 use Rattle.checker.specs.WalkLaws.{stored_is}
-use Rattle.checker.specs.Walk.{stored_if_asked}
-use Rattle.tables.specs.Loops.{every, every_start, every_next, every_stop, every_end}
-use Rattle.tables.specs.Parts.{part}
-use borrow.Author.Tests.{not-true, not-false}
-use lib.ListN.{length}
+use Rattle.tables.specs.Loops.{every_start, every_next, every_stop, every_end}
 use native.Mathlib.Omega.{arith}
-use Prim.Native.Nat.{◌-◌, ◌≤◌}
-use mathlib.Core.Bool.{true}
-use mathlib.Core.Path.{◌≡◌, sym, ◌∙◌}
-use borrow.Author.Rules.{rules}
+use mathlib.Core.Path.{sym, ◌∙◌}
 use Rattle.checker.proofs.walk.stored_if_asked.Goals as goal
 
 pub loop-i-init : goal.loop-i-init

@@ -1,14 +1,10 @@
-use Rattle.checker.specs.WalkLaws.{stored_is}
 use Rattle.checker.specs.Walk.{stored_if_asked}
-use Rattle.tables.specs.Loops.{every, every_start, every_next, every_stop, every_end}
+use Rattle.tables.specs.Loops.{every}
 use Rattle.tables.specs.Parts.{part}
-use borrow.Author.Tests.{not-true, not-false}
 use lib.ListN.{length}
-use native.Mathlib.Omega.{arith}
 use Prim.Native.Nat.{◌-◌, ◌≤◌}
 use mathlib.Core.Bool.{true}
-use mathlib.Core.Path.{◌≡◌, sym, ◌∙◌}
-use borrow.Author.Rules.{rules}
+use mathlib.Core.Path.{◌≡◌}
 use Rattle.checker.proofs.walk.stored_if_asked.Given as goal
 
 abbrev pub invariant-loop-i : goal.invariant-loop-i

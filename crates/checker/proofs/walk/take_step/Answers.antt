@@ -1,6 +1,5 @@
 -- `take_step`: each way out is a case of `Taken`. Assumes nothing.
 use Rattle.checker.specs.WalkLaws.{taken_malformed, taken_barred, taken_empty, taken_moved}
-use borrow.Author.Rules.{rules}
 use mathlib.Core.Path.{ap}
 use mathlib.Core.Bool.{not}
 use Rattle.checker.proofs.walk.take_step.Goals as goal

@@ -1,10 +1,7 @@
 -- `walk`: before step i all steps before it pass and the table holds what they moved (`Walking` of specs/WalkLaws). Assumes nothing.
-use Rattle.checker.specs.WalkLaws.{Walking, walking_start, walking_next, walking_stop, walking_end}
-use lib.ListN.{length}
+use Rattle.checker.specs.WalkLaws.{walking_start, walking_next, walking_stop, walking_end}
 use native.Mathlib.Omega.{arith}
-use Prim.Native.Nat.{◌-◌}
-use mathlib.Core.Path.{◌≡◌, refl, ◌∙◌}
-use borrow.Author.Rules.{rules}
+use mathlib.Core.Path.{refl, ◌∙◌}
 use mathlib.Core.Path.{ap}
 use mathlib.Core.Bool.{not}
 use Rattle.checker.proofs.walk.walk.Goals as goal

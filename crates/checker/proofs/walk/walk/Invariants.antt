@@ -1,9 +1,7 @@
-use Rattle.checker.specs.WalkLaws.{Walking, walking_start, walking_next, walking_stop, walking_end}
+use Rattle.checker.specs.WalkLaws.{Walking}
 use lib.ListN.{length}
-use native.Mathlib.Omega.{arith}
 use Prim.Native.Nat.{◌-◌}
-use mathlib.Core.Path.{◌≡◌, refl, ◌∙◌}
-use borrow.Author.Rules.{rules}
+use mathlib.Core.Path.{◌≡◌}
 use Rattle.checker.proofs.walk.walk.Given as goal
 
 abbrev pub invariant-loop-i : goal.invariant-loop-i

@@ -1,7 +1,6 @@
 -- `walk_list`: after `prepare` nothing is held; a refusal of the control steps is handed on, else the sample steps answer. Assumes nothing.
 use Rattle.checker.specs.WalkLaws.{fit_ready, fit_held, list_stop, list_on}
 use native.Mathlib.Omega.{arith}
-use borrow.Author.Rules.{rules}
 use Rattle.checker.proofs.walk.walk_list.Goals as goal
 
 pub walk-verdict-requires : goal.walk-verdict-requires

@@ -1,7 +1,6 @@
 -- `walk_sample`: each way out is a case of `sample_from`. Assumes nothing.
 use Rattle.checker.specs.WalkLaws.{ready_entered, sample_stop, sample_missing, sample_done}
 use mathlib.Core.Path.{refl}
-use borrow.Author.Rules.{rules}
 use mathlib.Core.Path.{ap}
 use mathlib.Core.Bool.{not}
 use Rattle.checker.proofs.walk.walk_sample.Goals as goal

@@ -1,5 +1,4 @@
 -- `clear`: three tables, each zeroed by its call. Assumes nothing.
-use borrow.Author.Rules.{rules}
 use Rattle.compile.proofs.phases.clear.Goals as goal
 
 pub returns : goal.returns

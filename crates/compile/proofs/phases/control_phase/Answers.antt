@@ -1,7 +1,6 @@
 -- `control_phase`: what each call asks for, and how the phase ends. Assumes nothing.
 use mathlib.Core.Path.{◌∙◌}
 use Rattle.compile.specs.PhaseLaws.{control_plan, control_link, control_fit, control_end}
-use borrow.Author.Rules.{rules}
 use Rattle.compile.proofs.phases.control_phase.Goals as goal
 
 pub plan_control-hoisted-requires : goal.plan_control-hoisted-requires

@@ -1,6 +1,5 @@
 -- `counted`: the counts are words. Assumes nothing.
 use Rattle.compile.specs.Phases.{counted_of}
-use borrow.Author.Rules.{rules}
 use Rattle.compile.proofs.phases.counted.Goals as goal
 
 pub returns : goal.returns

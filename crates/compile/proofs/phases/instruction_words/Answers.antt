@@ -1,6 +1,5 @@
 -- `instruction_words`: each arm is a case of `instruction_end`. Assumes nothing.
 use Rattle.compile.specs.Expanded.{instruction_end}
-use borrow.Author.Rules.{rules}
 use Rattle.compile.proofs.phases.instruction_words.Goals as goal
 
 pub returns-in-Accepted : goal.returns-in-Accepted

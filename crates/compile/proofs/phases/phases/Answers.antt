@@ -3,7 +3,6 @@ use mathlib.Core.Path.{◌∙◌}
 use borrow.Author.Tests.{not-true, not-false}
 use Rattle.plan.specs.ControlShare.{flow_in}
 use Rattle.compile.specs.PhaseLaws.{phases_locked, counted_ends, phases_done}
-use borrow.Author.Rules.{rules}
 use Rattle.compile.proofs.phases.phases.Goals as goal
 
 pub returns-then-not-control : goal.returns-then-not-control

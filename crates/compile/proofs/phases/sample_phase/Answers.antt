@@ -1,7 +1,6 @@
 -- `sample_phase`: what each call asks for, and how the phase ends. Assumes nothing.
 use native.Mathlib.Omega.{arith}
 use Rattle.compile.specs.PhaseLaws.{sample_plan, sample_link, sample_fit, sample_end}
-use borrow.Author.Rules.{rules}
 use Rattle.compile.proofs.phases.sample_phase.Goals as goal
 
 pub overflow_mul-from : goal.overflow_mul-from

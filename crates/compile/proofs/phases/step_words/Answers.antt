@@ -1,6 +1,5 @@
 -- `step_words`: each arm is a case of `step_end`. Assumes nothing.
 use Rattle.compile.specs.Expanded.{step_end}
-use borrow.Author.Rules.{rules}
 use Rattle.compile.proofs.phases.step_words.Goals as goal
 
 pub returns-in-Accepted : goal.returns-in-Accepted

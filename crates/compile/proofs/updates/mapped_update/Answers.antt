@@ -5,7 +5,6 @@ use mathlib.Core.Path.{sym}
 use Prim.Native.Nat.{◌*◌, ◌+◌}
 use borrow.Author.Tests.{eq-eqb}
 use native.Mathlib.Omega.{arith}
-use borrow.Author.Rules.{rules}
 use Rattle.compile.proofs.updates.mapped_update.Goals as goal
 
 pub overflow_cast-update : goal.overflow_cast-update

@@ -1,5 +1,4 @@
 -- `expand_node`: the words handed to `write_node` are the node's own, with operands as the table maps them. Assumes nothing.
-use borrow.Author.Rules.{rules}
 use mathlib.Core.Path.{◌≡◌, refl, ◌∙◌}
 use native.Mathlib.Omega.{arith}
 use Rattle.block.specs.Kinds.{length_of}

@@ -1,9 +1,8 @@
 -- `expand_nodes`: at each turn the nodes from i on stand written and the map of the nodes before them is still there. Assumes nothing.
-use borrow.Author.Rules.{rules}
 use Prim.Native.Nat.{◌-◌}
 use native.Mathlib.Omega.{arith}
 use Rattle.expand.specs.Lengths.{length_is}
-use Rattle.expand.specs.InPlace.{Going, going_start, going_back, end_covers, end_small, going_ready, going_turn, going_done}
+use Rattle.expand.specs.InPlace.{going_start, going_back, end_covers, end_small, going_ready, going_turn, going_done}
 use Rattle.expand.proofs.in_place.expand_nodes.Goals as goal
 
 pub loop-i-init : goal.loop-i-init

@@ -1,8 +1,4 @@
-use borrow.Author.Rules.{rules}
-use Prim.Native.Nat.{◌-◌}
-use native.Mathlib.Omega.{arith}
-use Rattle.expand.specs.Lengths.{length_is}
-use Rattle.expand.specs.InPlace.{Going, going_start, going_back, end_covers, end_small, going_ready, going_turn, going_done}
+use Rattle.expand.specs.InPlace.{Going}
 use Rattle.expand.proofs.in_place.expand_nodes.Given as goal
 
 abbrev pub invariant-loop-i : goal.invariant-loop-i

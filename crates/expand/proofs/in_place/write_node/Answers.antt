@@ -1,5 +1,4 @@
 -- `write_node`: in each arm the kind is that arm's case, whose expansion is what the writer called writes. Assumes nothing.
-use borrow.Author.Rules.{rules}
 use mathlib.Core.Path.{ap}
 use native.Mathlib.Omega.{arith}
 use Rattle.block.specs.Kinds.{length_of}

@@ -1,5 +1,4 @@
 -- `divide`: the reciprocal, and the product right behind it. Assumes nothing.
-use borrow.Author.Rules.{rules}
 use native.Mathlib.Omega.{arith}
 use Rattle.expand.specs.Lengths.{recip_length_lem}
 use Rattle.expand.specs.Writes.{join}

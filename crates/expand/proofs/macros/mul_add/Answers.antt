@@ -1,5 +1,4 @@
 -- `mul_add`: three nodes, each right behind the one before. Assumes nothing.
-use borrow.Author.Rules.{rules}
 use native.Mathlib.Omega.{arith}
 use Rattle.expand.specs.Writes.{join}
 use Rattle.expand.proofs.macros.mul_add.Goals as goal

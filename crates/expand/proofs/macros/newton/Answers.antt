@@ -1,11 +1,7 @@
 -- `newton`: what is left of the steps, written from `at` on, leaves what all the steps leave. Assumes nothing.
-use borrow.Author.Rules.{rules}
-use mathlib.Core.Path.{◌≡◌, refl, sym, ◌∙◌}
+use mathlib.Core.Path.{refl, sym, ◌∙◌}
 use native.Mathlib.Omega.{arith}
-use Prim.Native.Nat.{◌+◌, ◌*◌, ◌≤◌}
-use lib.ListN.{length}
-use Rattle.expand.specs.Writes.{write, newton_turn, newton_done}
-use Rattle.expand.specs.Macros.{newton}
+use Rattle.expand.specs.Writes.{newton_turn, newton_done}
 use Rattle.expand.proofs.macros.newton.Goals as goal
 
 pub loop-left-init : goal.loop-left-init

@@ -1,9 +1,7 @@
-use borrow.Author.Rules.{rules}
-use mathlib.Core.Path.{◌≡◌, refl, sym, ◌∙◌}
-use native.Mathlib.Omega.{arith}
+use mathlib.Core.Path.{◌≡◌}
 use Prim.Native.Nat.{◌+◌, ◌*◌, ◌≤◌}
 use lib.ListN.{length}
-use Rattle.expand.specs.Writes.{write, newton_turn, newton_done}
+use Rattle.expand.specs.Writes.{write}
 use Rattle.expand.specs.Macros.{newton}
 use Rattle.expand.proofs.macros.newton.Given as goal
 

@@ -1,5 +1,4 @@
 -- `recip`: two constants, the estimate and the Newton steps, each right behind the one before. Assumes nothing.
-use borrow.Author.Rules.{rules}
 use native.Mathlib.Omega.{arith}
 use Rattle.expand.specs.Writes.{join}
 use Rattle.expand.specs.Macros.{recip}

@@ -1,5 +1,4 @@
 -- `sigmoid`: two nodes, the tanh and two nodes, each right behind the one before. Assumes nothing.
-use borrow.Author.Rules.{rules}
 use native.Mathlib.Omega.{arith}
 use Prim.Native.Nat.{◌+◌}
 use Rattle.expand.specs.Lengths.{tanh_length_lem}

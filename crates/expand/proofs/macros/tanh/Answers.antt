@@ -1,5 +1,4 @@
 -- `tanh`: input, numerator, denominator, reciprocal and quotient, each right behind the one before. Assumes nothing.
-use borrow.Author.Rules.{rules}
 use native.Mathlib.Omega.{arith}
 use Prim.Native.Nat.{◌+◌}
 use Rattle.expand.specs.Lengths.{recip_length_lem}

@@ -1,11 +1,9 @@
 -- `write_map`: turn i stores node i's last expanded node, one less than the lengths so far. Assumes nothing.
-use borrow.Author.Rules.{rules}
 use mathlib.Core.Path.{ap, ◌∙◌}
-use Prim.Native.Nat.{◌-◌}
 use native.Mathlib.Omega.{arith}
 use lib.ListN.{length}
 use Rattle.expand.specs.Lengths.{length_is}
-use Rattle.expand.specs.MapLaws.{over_length, Filling, filling_start, filling_small, filling_next, filling_end}
+use Rattle.expand.specs.MapLaws.{over_length, filling_start, filling_small, filling_next, filling_end}
 use Rattle.expand.proofs.map.write_map.Goals as goal
 
 pub loop-i-init : goal.loop-i-init

@@ -1,6 +1,5 @@
 -- `expand` of a valid block: its map has room, and its operands stand before their nodes. Assumes nothing.
 use Rattle.expand.specs.Calls.{expand_short, map_room, output_within, all_ready, expand_done}
-use borrow.Author.Rules.{rules}
 use Rattle.expand.proofs.valid.expand.Goals as goal
 
 pub returns-then-table-total : goal.returns-then-table-total

@@ -1,14 +1,9 @@
 -- `mapped_updates`: before turn i the first i words are the mapped updates. Assumes nothing.
 use mathlib.Core.List.{[]}
 use Rattle.graph_run.specs.PlanLaws.{list_start, list_next, mapped_end}
-use Rattle.tables.specs.Lists.{list_of}
-use lib.ListN.{length, take, length-set}
-use Rattle.graph_run.specs.Plan.{mapped_word}
+use lib.ListN.{length-set}
 use Rattle.tables.specs.Zeros.{zeros_length}
-use mathlib.Core.Path.{◌≡◌}
-use Prim.Native.Nat.{◌-◌, ◌≤◌}
 use native.Mathlib.Omega.{arith}
-use borrow.Author.Rules.{rules}
 use Rattle.graph_run.proofs.plan.mapped_updates.Goals as goal
 
 pub loop-i-init : goal.loop-i-init

@@ -3,7 +3,6 @@ use Rattle.graph_run.specs.PlanLaws.{mapped_length, plan_graph, ready_of, sample
 use lib.Seq.{length-take-le}
 use lib.ListN.{length}
 use mathlib.Core.Path.{sym, ap, ◌∙◌}
-use borrow.Author.Rules.{rules}
 use Rattle.graph_run.proofs.plan.play.Goals as goal
 
 pub slice_bounds-samples-end-2 : goal.slice_bounds-samples-end-2

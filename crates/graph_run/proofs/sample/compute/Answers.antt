@@ -1,7 +1,6 @@
 -- `compute`: each arm is its code's operation. Assumes nothing.
 use Rattle.words.specs.Operations.{operate}
 use borrow.Author.Tests.{ne_eqb}
-use borrow.Author.Rules.{rules}
 use Rattle.graph_run.proofs.sample.compute.Goals as goal
 
 pub returns-in-5 : goal.returns-in-5

@@ -1,16 +1,10 @@
 -- `fill_values`: before turn k the first k words are the values of the first k nodes. Assumes nothing.
 use mathlib.Core.Path.{sym}
 use lib.Seq.{length-take-le}
-use Rattle.memory.specs.Signals.{given}
-use Rattle.graph_run.specs.Sample.{values_to}
 use Rattle.graph_run.specs.SampleLaws.{values_start, values_next, values_end}
-use Rattle.memory.specs.Lines.{memories}
-use Rattle.memory.specs.Fit.{line_lengths}
-use mathlib.Core.Path.{◌≡◌, refl}
-use lib.ListN.{length, take, length-set}
-use Prim.Native.Nat.{◌-◌, ◌≤◌}
+use mathlib.Core.Path.{refl}
+use lib.ListN.{length-set}
 use native.Mathlib.Omega.{arith}
-use borrow.Author.Rules.{rules}
 use Rattle.graph_run.proofs.sample.fill_values.Goals as goal
 
 pub loop-k-init : goal.loop-k-init

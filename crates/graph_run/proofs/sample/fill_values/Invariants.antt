@@ -1,15 +1,10 @@
-use mathlib.Core.Path.{sym}
-use lib.Seq.{length-take-le}
 use Rattle.memory.specs.Signals.{given}
 use Rattle.graph_run.specs.Sample.{values_to}
-use Rattle.graph_run.specs.SampleLaws.{values_start, values_next, values_end}
 use Rattle.memory.specs.Lines.{memories}
 use Rattle.memory.specs.Fit.{line_lengths}
-use mathlib.Core.Path.{◌≡◌, refl}
-use lib.ListN.{length, take, length-set}
+use mathlib.Core.Path.{◌≡◌}
+use lib.ListN.{length, take}
 use Prim.Native.Nat.{◌-◌, ◌≤◌}
-use native.Mathlib.Omega.{arith}
-use borrow.Author.Rules.{rules}
 use Rattle.graph_run.proofs.sample.fill_values.Given as goal
 
 abbrev pub invariant-loop-k : goal.invariant-loop-k

@@ -4,7 +4,6 @@ use mathlib.Core.Path.{ap, ◌∙◌}
 use lib.ListN.{length}
 use Rattle.graph_run.specs.SampleLaws.{sample_is, updates_in}
 use native.Mathlib.Omega.{arith}
-use borrow.Author.Rules.{rules}
 use Rattle.graph_run.proofs.sample.sample.Goals as goal
 
 pub fill_values-requires : goal.fill_values-requires

@@ -2,7 +2,6 @@
 use Rattle.graph_run.specs.Sample.{update_delay}
 use borrow.Author.Tests.{eq-eqb, ne_eqb}
 use native.Mathlib.Omega.{arith}
-use borrow.Author.Rules.{rules}
 use Rattle.graph_run.proofs.sample.update_delay.Goals as goal
 
 pub overflow_cast-store : goal.overflow_cast-store

@@ -1,11 +1,8 @@
 -- `update_delays`: before turn i the first i delays are updated and the lines fit. Assumes nothing.
-use Rattle.graph_run.specs.SampleLaws.{Storing, storing_start, storing_next, updates_of}
-use Rattle.memory.specs.Fit.{line_lengths}
+use Rattle.graph_run.specs.SampleLaws.{storing_start, storing_next, updates_of}
 use mathlib.Core.Path.{◌≡◌, ◌∙◌}
 use lib.ListN.{length}
-use Prim.Native.Nat.{◌-◌, ◌≤◌}
 use native.Mathlib.Omega.{arith}
-use borrow.Author.Rules.{rules}
 use Rattle.graph_run.proofs.sample.update_delays.Goals as goal
 
 pub loop-i-init : goal.loop-i-init

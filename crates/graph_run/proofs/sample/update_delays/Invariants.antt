@@ -1,10 +1,6 @@
-use Rattle.graph_run.specs.SampleLaws.{Storing, storing_start, storing_next, updates_of}
+use Rattle.graph_run.specs.SampleLaws.{Storing}
 use Rattle.memory.specs.Fit.{line_lengths}
-use mathlib.Core.Path.{◌≡◌, ◌∙◌}
-use lib.ListN.{length}
 use Prim.Native.Nat.{◌-◌, ◌≤◌}
-use native.Mathlib.Omega.{arith}
-use borrow.Author.Rules.{rules}
 use Rattle.graph_run.proofs.sample.update_delays.Given as goal
 
 abbrev pub invariant-loop-i : goal.invariant-loop-i

@@ -2,7 +2,6 @@
 use Rattle.graph_run.specs.Sample.{update_state}
 use borrow.Author.Tests.{eq-eqb, ne_eqb}
 use native.Mathlib.Omega.{arith}
-use borrow.Author.Rules.{rules}
 use Rattle.graph_run.proofs.sample.update_state.Goals as goal
 
 pub overflow_cast-update : goal.overflow_cast-update

@@ -1,11 +1,8 @@
 -- `update_states`: before turn i the first i states are updated. Assumes nothing.
-use Rattle.graph_run.specs.Sample.{update_states}
 use Rattle.graph_run.specs.SampleLaws.{states_start, states_next, states_length, updates_of}
 use mathlib.Core.Path.{◌≡◌, ap, ◌∙◌}
 use lib.ListN.{length}
-use Prim.Native.Nat.{◌-◌, ◌≤◌}
 use native.Mathlib.Omega.{arith}
-use borrow.Author.Rules.{rules}
 use Rattle.graph_run.proofs.sample.update_states.Goals as goal
 
 pub loop-i-init : goal.loop-i-init

@@ -1,10 +1,6 @@
 use Rattle.graph_run.specs.Sample.{update_states}
-use Rattle.graph_run.specs.SampleLaws.{states_start, states_next, states_length, updates_of}
-use mathlib.Core.Path.{◌≡◌, ap, ◌∙◌}
-use lib.ListN.{length}
+use mathlib.Core.Path.{◌≡◌}
 use Prim.Native.Nat.{◌-◌, ◌≤◌}
-use native.Mathlib.Omega.{arith}
-use borrow.Author.Rules.{rules}
 use Rattle.graph_run.proofs.sample.update_states.Given as goal
 
 abbrev pub invariant-loop-i : goal.invariant-loop-i

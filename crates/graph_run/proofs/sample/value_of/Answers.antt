@@ -4,7 +4,6 @@ use Rattle.graph_run.specs.Sample.{value_of}
 use Rattle.graph_run.specs.SampleLaws.{computes}
 use borrow.Author.Tests.{ne_eqb}
 use native.Mathlib.Omega.{arith}
-use borrow.Author.Rules.{rules}
 use Rattle.graph_run.proofs.sample.value_of.Goals as goal
 
 pub bounds-settings-i : goal.bounds-settings-i

@@ -1,13 +1,7 @@
 -- `samples`: before turn t the first t samples are rendered and all is ready for the next. Assumes nothing.
-use Rattle.graph_run.specs.Ready.{graph}
-use Rattle.memory.specs.Signals.{signals, rendered}
-use Rattle.graph_run.specs.RunLaws.{Going, going_start, going_next, going_end}
-use Rattle.memory.specs.Lines.{memories}
-use mathlib.Core.Path.{◌≡◌, refl, ◌∙◌}
-use lib.ListN.{length}
-use Prim.Native.Nat.{◌-◌, ◌*◌, ◌≤◌, ◌<◌}
+use Rattle.graph_run.specs.RunLaws.{going_start, going_next, going_end}
+use mathlib.Core.Path.{refl, ◌∙◌}
 use native.Mathlib.Omega.{arith}
-use borrow.Author.Rules.{rules}
 use Rattle.graph_run.proofs.samples.samples.Goals as goal
 
 pub loop-t-init : goal.loop-t-init

@@ -1,12 +1,10 @@
 use Rattle.graph_run.specs.Ready.{graph}
 use Rattle.memory.specs.Signals.{signals, rendered}
-use Rattle.graph_run.specs.RunLaws.{Going, going_start, going_next, going_end}
+use Rattle.graph_run.specs.RunLaws.{Going}
 use Rattle.memory.specs.Lines.{memories}
-use mathlib.Core.Path.{◌≡◌, refl, ◌∙◌}
+use mathlib.Core.Path.{◌≡◌}
 use lib.ListN.{length}
 use Prim.Native.Nat.{◌-◌, ◌*◌, ◌≤◌, ◌<◌}
-use native.Mathlib.Omega.{arith}
-use borrow.Author.Rules.{rules}
 use Rattle.graph_run.proofs.samples.samples.Given as goal
 
 abbrev pub invariant-loop-t : goal.invariant-loop-t

@@ -1,7 +1,6 @@
 -- `payload_sum`: before turn i the sum is that of the first i words. Assumes nothing.
-use Rattle.std.proofs.Common.{◌≡◌, ◌-◌, ◌≤◌, length, take, refl, ◌∙◌, arith, rules}
+use Rattle.std.proofs.Common.{◌≡◌, length, refl, ◌∙◌, arith, rules}
 use lib.Seq.{take-length}
-use Rattle.house.specs.Bytes.{wrapping_sum}
 use Rattle.house.specs.BytesLaws.{sum_start, sum_next}
 use Rattle.house.proofs.blocks.payload_sum.Goals as goal
 

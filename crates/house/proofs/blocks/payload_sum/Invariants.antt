@@ -1,7 +1,5 @@
-use Rattle.std.proofs.Common.{◌≡◌, ◌-◌, ◌≤◌, length, take, refl, ◌∙◌, arith, rules}
-use lib.Seq.{take-length}
+use Rattle.std.proofs.Common.{◌≡◌, ◌-◌, ◌≤◌, length, take}
 use Rattle.house.specs.Bytes.{wrapping_sum}
-use Rattle.house.specs.BytesLaws.{sum_start, sum_next}
 use Rattle.house.proofs.blocks.payload_sum.Given as goal
 
 abbrev pub invariant-loop-i : goal.invariant-loop-i

@@ -1,7 +1,6 @@
 -- `put_words`: before turn i the bytes of the first i words stand from `at` on. Assumes nothing.
-use Rattle.std.proofs.Common.{◌≡◌, ◌-◌, ◌≤◌, length, take, refl, ap, ◌∙◌, arith, rules}
-use lib.Seq.{sets, length-sets, take-length}
-use Rattle.house.specs.Bytes.{bytes_of}
+use Rattle.std.proofs.Common.{◌≡◌, length, refl, ap, ◌∙◌, arith}
+use lib.Seq.{length-sets, take-length}
 use Rattle.house.specs.BytesLaws.{put_start, put_next}
 use Rattle.house.proofs.blocks.put_words.Goals as goal
 

@@ -1,7 +1,6 @@
-use Rattle.std.proofs.Common.{◌≡◌, ◌-◌, ◌≤◌, length, take, refl, ap, ◌∙◌, arith, rules}
-use lib.Seq.{sets, length-sets, take-length}
+use Rattle.std.proofs.Common.{◌≡◌, ◌-◌, ◌≤◌, length, take}
+use lib.Seq.{sets}
 use Rattle.house.specs.Bytes.{bytes_of}
-use Rattle.house.specs.BytesLaws.{put_start, put_next}
 use Rattle.house.proofs.blocks.put_words.Given as goal
 
 abbrev pub invariant-loop-i : goal.invariant-loop-i

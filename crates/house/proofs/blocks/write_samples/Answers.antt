@@ -1,7 +1,7 @@
 -- `write_samples`: before turn b the bytes of the first b blocks stand in the buffer (specs/FileLaws). Assumes nothing.
-use Rattle.std.proofs.Common.{◌-◌, arith, rules}
+use Rattle.std.proofs.Common.{arith}
 use Rattle.house.specs.Payload.{rendering_payload}
-use Rattle.house.specs.FileLaws.{Going, going_start, going_next, going_end}
+use Rattle.house.specs.FileLaws.{going_start, going_next, going_end}
 use Rattle.house.proofs.blocks.write_samples.Goals as goal
 
 pub loop-b-init : goal.loop-b-init

@@ -1,6 +1,6 @@
-use Rattle.std.proofs.Common.{◌-◌, arith, rules}
+use Rattle.std.proofs.Common.{◌-◌}
 use Rattle.house.specs.Payload.{rendering_payload}
-use Rattle.house.specs.FileLaws.{Going, going_start, going_next, going_end}
+use Rattle.house.specs.FileLaws.{Going}
 use Rattle.house.proofs.blocks.write_samples.Given as goal
 
 abbrev pub invariant-loop-b : goal.invariant-loop-b

@@ -1,9 +1,9 @@
 -- `write_tables`: before turn b the bytes of the first b blocks stand in the buffer (specs/FileLaws). Assumes nothing.
-use Rattle.std.proofs.Common.{◌-◌, arith, rules}
+use Rattle.std.proofs.Common.{arith}
 use Rattle.house.specs.Frame.{effect_kind}
 use Rattle.house.specs.Payload.{effect_payload}
 use Rattle.house.specs.WriteLaws.{payload_count}
-use Rattle.house.specs.FileLaws.{Going, going_start, going_next, going_end}
+use Rattle.house.specs.FileLaws.{going_start, going_next, going_end}
 use Rattle.house.proofs.blocks.write_tables.Goals as goal
 
 pub loop-b-init : goal.loop-b-init

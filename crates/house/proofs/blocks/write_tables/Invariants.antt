@@ -1,8 +1,7 @@
-use Rattle.std.proofs.Common.{◌-◌, arith, rules}
+use Rattle.std.proofs.Common.{◌-◌}
 use Rattle.house.specs.Frame.{effect_kind}
 use Rattle.house.specs.Payload.{effect_payload}
-use Rattle.house.specs.WriteLaws.{payload_count}
-use Rattle.house.specs.FileLaws.{Going, going_start, going_next, going_end}
+use Rattle.house.specs.FileLaws.{Going}
 use Rattle.house.proofs.blocks.write_tables.Given as goal
 
 abbrev pub invariant-loop-b : goal.invariant-loop-b

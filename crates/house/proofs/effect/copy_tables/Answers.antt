@@ -1,5 +1,5 @@
 -- `copy_tables` copies four sections, one behind the other. Assumes nothing.
-use Rattle.std.proofs.Common.{arith, rules}
+use Rattle.std.proofs.Common.{arith}
 use Rattle.house.specs.ReadLaws.{tables_room, tables_read}
 use Rattle.house.proofs.effect.copy_tables.Goals as goal
 

@@ -1,5 +1,5 @@
 -- `tables_short` compares the four tables in order. Assumes nothing.
-use Rattle.std.proofs.Common.{rules, le-ltb, lt-ltb}
+use Rattle.std.proofs.Common.{le-ltb, lt-ltb}
 use Rattle.house.specs.Read.{tables_short}
 use Rattle.house.proofs.effect.tables_short.Goals as goal
 

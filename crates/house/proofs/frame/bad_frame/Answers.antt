@@ -1,5 +1,5 @@
 -- `bad_frame` asks its four tests in order. Assumes nothing.
-use Rattle.std.proofs.Common.{sym, ◌∙◌, rules}
+use Rattle.std.proofs.Common.{sym, ◌∙◌}
 use Rattle.house.specs.FrameLaws.{frame_kind, frame_number, frame_used, frame_rest}
 use Rattle.house.proofs.frame.bad_frame.Goals as goal
 

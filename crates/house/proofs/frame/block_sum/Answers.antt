@@ -1,8 +1,5 @@
 -- `block_sum`: before turn i the sum is that of the first i words. Assumes nothing.
-use Rattle.std.proofs.Common.{◌≡◌, ◌-◌, ◌≤◌, arith, rules}
-use Rattle.tables.specs.Lists.{list_of}
-use Rattle.house.specs.Bytes.{wrapping_sum}
-use Rattle.house.specs.Frame.{block_word}
+use Rattle.std.proofs.Common.{◌≡◌, arith}
 use Rattle.house.specs.BytesLaws.{wrapping_start, wrapping_next}
 use Rattle.house.proofs.frame.block_sum.Goals as goal
 

@@ -1,8 +1,7 @@
-use Rattle.std.proofs.Common.{◌≡◌, ◌-◌, ◌≤◌, arith, rules}
+use Rattle.std.proofs.Common.{◌≡◌, ◌-◌, ◌≤◌}
 use Rattle.tables.specs.Lists.{list_of}
 use Rattle.house.specs.Bytes.{wrapping_sum}
 use Rattle.house.specs.Frame.{block_word}
-use Rattle.house.specs.BytesLaws.{wrapping_start, wrapping_next}
 use Rattle.house.proofs.frame.block_sum.Given as goal
 
 abbrev pub invariant-loop-i : goal.invariant-loop-i

@@ -1,5 +1,4 @@
 -- `block_word` reads the word at its place. Assumes nothing.
-use Rattle.std.proofs.Common.{rules}
 use Rattle.house.specs.FrameLaws.{block_word_at}
 use Rattle.house.proofs.frame.block_word.Goals as goal
 

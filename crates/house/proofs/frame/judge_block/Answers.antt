@@ -1,5 +1,5 @@
 -- `judge_block` looks at the check before the rest of the frame. Assumes nothing.
-use Rattle.std.proofs.Common.{sym, ◌∙◌, rules}
+use Rattle.std.proofs.Common.{sym, ◌∙◌}
 use Rattle.house.specs.FrameLaws.{block_check, block_bad, block_good}
 use Rattle.house.proofs.frame.judge_block.Goals as goal
 

@@ -1,7 +1,6 @@
 -- `rest_not_zero`: before turn i no word of the first i past the used ones is other than 0. Assumes nothing.
-use Rattle.std.proofs.Common.{◌≡◌, ◌-◌, ◌≤◌, false, arith, rules}
-use Rattle.tables.specs.Loops.{some, some_start, some_next}
-use Rattle.house.specs.Frame.{unused_word}
+use Rattle.std.proofs.Common.{arith}
+use Rattle.tables.specs.Loops.{some_start, some_next}
 use Rattle.house.specs.FrameLaws.{rest_none, rest_found, rest_next, rest_clear}
 use Rattle.house.proofs.frame.rest_not_zero.Goals as goal
 

@@ -1,7 +1,6 @@
-use Rattle.std.proofs.Common.{◌≡◌, ◌-◌, ◌≤◌, false, arith, rules}
-use Rattle.tables.specs.Loops.{some, some_start, some_next}
+use Rattle.std.proofs.Common.{◌≡◌, ◌-◌, ◌≤◌, false}
+use Rattle.tables.specs.Loops.{some}
 use Rattle.house.specs.Frame.{unused_word}
-use Rattle.house.specs.FrameLaws.{rest_none, rest_found, rest_next, rest_clear}
 use Rattle.house.proofs.frame.rest_not_zero.Given as goal
 
 abbrev pub invariant-loop-i : goal.invariant-loop-i

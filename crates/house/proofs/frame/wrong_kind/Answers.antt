@@ -1,5 +1,4 @@
 -- `wrong_kind` tests the kind against its bounds, then against the first kind. Assumes nothing.
-use Rattle.std.proofs.Common.{rules}
 use Rattle.house.specs.FrameLaws.{kind_low, kind_high, kind_first}
 use Rattle.house.proofs.frame.wrong_kind.Goals as goal
 

@@ -1,5 +1,4 @@
 -- `wrong_used` tests an inner block for 124 and the last for 1 to 124. Assumes nothing.
-use Rattle.std.proofs.Common.{rules}
 use Rattle.house.specs.FrameLaws.{used_inner, used_none, used_last}
 use Rattle.house.proofs.frame.wrong_used.Goals as goal
 

@@ -1,6 +1,5 @@
 -- `effect_word`: the place is looked up in one list after the other. Assumes nothing.
 use Rattle.house.specs.Gather.{word_head, word_parameter, word_state, word_delay, word_node, word_past}
-use Rattle.std.proofs.Common.{rules}
 use Rattle.house.proofs.gather.effect_word.Goals as goal
 
 pub returns-then-place-lt9 : goal.returns-then-place-lt9

@@ -1,5 +1,5 @@
-use Rattle.std.proofs.Common.{◌≡◌, ◌-◌, ◌≤◌, length, refl, ap, ◌∙◌, arith, rules}
-use Rattle.tables.specs.Lists.{list_of, filled, filled_start, filled_next, filled_last}
+use Rattle.std.proofs.Common.{◌≡◌, ◌-◌, ◌≤◌, length}
+use Rattle.tables.specs.Lists.{filled}
 use Rattle.house.specs.File.{share_word}
 use Rattle.house.proofs.gather.inner_share.Given as goal
 

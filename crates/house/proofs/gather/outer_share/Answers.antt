@@ -1,6 +1,6 @@
 -- `outer_share`: before turn i the first i words are stored. Assumes nothing.
-use Rattle.std.proofs.Common.{◌≡◌, ◌-◌, ◌≤◌, length, refl, ap, ◌∙◌, arith, rules}
-use Rattle.tables.specs.Lists.{list_of, filled, filled_start, filled_next, filled_last}
+use Rattle.std.proofs.Common.{refl, ap, ◌∙◌, arith}
+use Rattle.tables.specs.Lists.{list_of, filled_start, filled_next, filled_last}
 use Rattle.house.specs.File.{share_word}
 use Rattle.house.specs.Payload.{rendering_payload}
 use Rattle.house.proofs.gather.outer_share.Goals as goal

@@ -1,5 +1,5 @@
 -- `rendering_share`: a block among the samples is a plain copy. Assumes nothing.
-use Rattle.std.proofs.Common.{◌∙◌, arith, rules}
+use Rattle.std.proofs.Common.{◌∙◌, arith}
 use Rattle.house.specs.Gather.{inner_share}
 use Rattle.house.proofs.gather.rendering_share.Goals as goal
 

@@ -1,6 +1,5 @@
 -- `rendering_word`: the count, a sample, or 0 past the last. Assumes nothing.
 use Rattle.house.specs.Gather.{payload_count, payload_sample, payload_past}
-use Rattle.std.proofs.Common.{rules}
 use Rattle.house.proofs.gather.rendering_word.Goals as goal
 
 pub returns-then-place-eq0 : goal.returns-then-place-eq0

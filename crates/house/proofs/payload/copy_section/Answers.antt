@@ -1,8 +1,6 @@
 -- `copy_section`: before a turn the first i words of the section are copied. Assumes nothing.
-use Rattle.std.proofs.Common.{◌≡◌, ◌-◌, ◌≤◌, length, refl, ap, ◌∙◌, arith, rules}
+use Rattle.std.proofs.Common.{◌≡◌, length, refl, ap, ◌∙◌, arith}
 use lib.Seq.{length-sets}
-use Rattle.tables.specs.Zeros.{copied}
-use Rattle.house.specs.Frame.{section}
 use Rattle.house.specs.PayloadLaws.{section_start, section_next}
 use Rattle.house.proofs.payload.copy_section.Goals as goal
 

@@ -1,8 +1,6 @@
-use Rattle.std.proofs.Common.{◌≡◌, ◌-◌, ◌≤◌, length, refl, ap, ◌∙◌, arith, rules}
-use lib.Seq.{length-sets}
+use Rattle.std.proofs.Common.{◌≡◌, ◌-◌, ◌≤◌, length}
 use Rattle.tables.specs.Zeros.{copied}
 use Rattle.house.specs.Frame.{section}
-use Rattle.house.specs.PayloadLaws.{section_start, section_next}
 use Rattle.house.proofs.payload.copy_section.Given as goal
 
 abbrev pub invariant-loop-i : goal.invariant-loop-i

@@ -1,7 +1,5 @@
 -- `copy_words`: before turn i the first i words are stored from `to` on. Assumes nothing.
-use Rattle.std.proofs.Common.{◌≡◌, ◌-◌, ◌≤◌, length, refl, arith, length-set, rules}
-use lib.Seq.{sets}
-use Rattle.tables.specs.Lists.{list_of}
+use Rattle.std.proofs.Common.{◌≡◌, refl, arith, length-set}
 use Rattle.house.specs.Generic.{stores_next, stores_start}
 use Rattle.house.specs.Bytes.{words_from}
 use Rattle.house.proofs.payload.copy_words.Goals as goal

@@ -1,7 +1,6 @@
-use Rattle.std.proofs.Common.{◌≡◌, ◌-◌, ◌≤◌, length, refl, arith, length-set, rules}
+use Rattle.std.proofs.Common.{◌≡◌, ◌-◌, ◌≤◌, length}
 use lib.Seq.{sets}
 use Rattle.tables.specs.Lists.{list_of}
-use Rattle.house.specs.Generic.{stores_next, stores_start}
 use Rattle.house.specs.Bytes.{words_from}
 use Rattle.house.proofs.payload.copy_words.Given as goal
 

@@ -1,6 +1,5 @@
 -- `first_word` reads a payload word of the first block. Assumes nothing.
 use Rattle.house.specs.FrameLaws.{payload_first}
-use Rattle.std.proofs.Common.{rules}
 use Rattle.house.proofs.payload.first_word.Goals as goal
 
 pub returns : goal.returns

@@ -1,6 +1,5 @@
 -- `payload_length` reads the last block's used count. Assumes nothing.
 use Rattle.house.specs.FrameLaws.{payload_length_at}
-use Rattle.std.proofs.Common.{rules}
 use Rattle.house.proofs.payload.payload_length.Goals as goal
 
 pub returns : goal.returns

@@ -1,5 +1,5 @@
 -- `put` stores the four bytes of a word, one behind the other. Assumes nothing.
-use Rattle.std.proofs.Common.{◌≡◌, suc, ◌+◌, arith, length-set, rules}
+use Rattle.std.proofs.Common.{◌≡◌, suc, ◌+◌, arith, length-set}
 use Rattle.house.proofs.word_bytes.put.Goals as goal
 
 pub bounds-bytes-at-2 : goal.bounds-bytes-at-2

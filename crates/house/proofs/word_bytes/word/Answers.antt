@@ -1,6 +1,5 @@
 -- `word` reads four bytes. Assumes nothing.
 use Rattle.house.specs.BytesLaws.{word_of}
-use Rattle.std.proofs.Common.{rules}
 use Rattle.house.proofs.word_bytes.word.Goals as goal
 
 pub returns : goal.returns

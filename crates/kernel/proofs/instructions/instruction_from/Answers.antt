@@ -1,6 +1,5 @@
 -- `instruction_from`: at each code the table of codes computes to that code's instruction; past them all its tests fail. Assumes nothing.
 use borrow.Author.Tests.{ne_eqb}
-use borrow.Author.Rules.{rules}
 use Rattle.kernel.specs.Instructions.{instruction_from}
 use Rattle.kernel.proofs.instructions.instruction_from.Goals as goal
 

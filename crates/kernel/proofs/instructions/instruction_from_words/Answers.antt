@@ -1,5 +1,4 @@
 -- `instruction_from_words`: the parts of the word, as the definition takes them. Assumes nothing.
-use borrow.Author.Rules.{rules}
 use Rattle.kernel.specs.Instructions.{instruction_of}
 use Rattle.kernel.proofs.instructions.instruction_from_words.Goals as goal
 

@@ -1,5 +1,4 @@
 -- `instruction_word`: in each arm the instruction is that arm's case, whose word computes to the packed parts. Assumes nothing.
-use borrow.Author.Rules.{rules}
 use Rattle.kernel.proofs.instructions.instruction_word.Goals as goal
 
 pub returns-in-Immediate : goal.returns-in-Immediate

@@ -1,5 +1,4 @@
 -- `allowed_in`: in each arm the phase is that arm's case. Assumes nothing.
-use borrow.Author.Rules.{rules}
 use Rattle.kernel.proofs.lists.allowed_in.Goals as goal
 
 pub returns-in-Sample : goal.returns-in-Sample

@@ -1,5 +1,4 @@
 -- `computes_formed`: in each arm the step is that arm's case; only a compute looks at an instruction. Assumes nothing.
-use borrow.Author.Rules.{rules}
 use Rattle.kernel.proofs.lists.computes_formed.Goals as goal
 
 pub instruction_formed-requires : goal.instruction_formed-requires

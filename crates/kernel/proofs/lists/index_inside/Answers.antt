@@ -1,5 +1,4 @@
 -- `index_inside`: in each arm the step is that arm's case, whose test computes to the comparison made. Assumes nothing.
-use borrow.Author.Rules.{rules}
 use Rattle.kernel.proofs.lists.index_inside.Goals as goal
 
 pub returns-in-Load : goal.returns-in-Load

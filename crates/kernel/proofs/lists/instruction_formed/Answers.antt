@@ -1,6 +1,5 @@
 -- `instruction_formed`: the words read are the instruction's, and the arm says which of the two cases they are. Assumes nothing.
 use mathlib.Core.Path.{sym, ap, ◌∙◌}
-use borrow.Author.Rules.{rules}
 use Rattle.kernel.specs.Lists.{is_formed}
 use Rattle.kernel.proofs.lists.instruction_formed.Goals as goal
 

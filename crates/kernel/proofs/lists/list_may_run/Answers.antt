@@ -1,8 +1,6 @@
 -- `list_may_run`: each way out is a law of the list: no sample steps, a control step that may not run, else the sample steps decide. Assumes nothing.
 use mathlib.Core.Path.{sym, ◌∙◌}
 use native.Mathlib.Omega.{arith}
-use borrow.Author.Tests.{not-true, not-false}
-use borrow.Author.Rules.{rules}
 use Rattle.kernel.specs.ListLaws.{list_empty, list_barred, list_decided}
 use Rattle.kernel.proofs.lists.list_may_run.Goals as goal
 

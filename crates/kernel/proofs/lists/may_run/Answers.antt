@@ -1,6 +1,5 @@
 -- `may_run`: words that are malformed may not run; else their step decides. Assumes nothing.
 use mathlib.Core.Path.{sym, ◌∙◌}
-use borrow.Author.Rules.{rules}
 use Rattle.kernel.specs.ListLaws.{malformed_barred, formed_decided}
 use Rattle.kernel.proofs.lists.may_run.Goals as goal
 

@@ -1,11 +1,8 @@
 -- `phase_may_run`: the loop's invariant is that every step before i may run; an early return has found one that may not. Assumes nothing.
-use mathlib.Core.Path.{◌≡◌, sym, ◌∙◌}
-use mathlib.Core.Bool.{true}
-use Prim.Native.Nat.{◌-◌, ◌≤◌}
+use mathlib.Core.Path.{sym, ◌∙◌}
 use native.Mathlib.Omega.{arith}
-use borrow.Author.Tests.{not-true, not-false}
-use Rattle.tables.specs.Loops.{every, every_start, every_next, every_stop, every_end}
-use Rattle.kernel.specs.Lists.{sizes, phase_may_run}
+use Rattle.tables.specs.Loops.{every_start, every_next, every_stop, every_end}
+use Rattle.kernel.specs.Lists.{phase_may_run}
 use Rattle.kernel.proofs.lists.phase_may_run.Goals as goal
 
 pub loop-i-init : goal.loop-i-init

@@ -1,9 +1,7 @@
-use mathlib.Core.Path.{◌≡◌, sym, ◌∙◌}
+use mathlib.Core.Path.{◌≡◌}
 use mathlib.Core.Bool.{true}
 use Prim.Native.Nat.{◌-◌, ◌≤◌}
-use native.Mathlib.Omega.{arith}
-use borrow.Author.Tests.{not-true, not-false}
-use Rattle.tables.specs.Loops.{every, every_start, every_next, every_stop, every_end}
+use Rattle.tables.specs.Loops.{every}
 use Rattle.kernel.specs.Lists.{sizes, phase_may_run}
 use Rattle.kernel.proofs.lists.phase_may_run.Given as goal
 

@@ -1,5 +1,4 @@
 -- `source_in_control`: in each arm the source is that arm's case, whose test computes. Assumes nothing.
-use borrow.Author.Rules.{rules}
 use Rattle.kernel.proofs.lists.source_in_control.Goals as goal
 
 pub returns-in-Audio : goal.returns-in-Audio

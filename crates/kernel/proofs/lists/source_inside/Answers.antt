@@ -1,5 +1,4 @@
 -- `source_inside`: in each arm the source is that arm's case, whose test computes to the comparison made. Assumes nothing.
-use borrow.Author.Rules.{rules}
 use Rattle.kernel.proofs.lists.source_inside.Goals as goal
 
 pub returns-in-Parameter : goal.returns-in-Parameter

@@ -1,7 +1,5 @@
 -- `step_may_run`: each way out is a law of the conjunction. An index inside its count is what reading the instruction needs. Assumes nothing.
 use mathlib.Core.Path.{sym, ◌∙◌}
-use borrow.Author.Tests.{not-true, not-false}
-use borrow.Author.Rules.{rules}
 use Rattle.kernel.specs.ListLaws.{step_barred, step_outside, step_decided, computes_in}
 use Rattle.kernel.proofs.lists.step_may_run.Goals as goal
 

@@ -1,6 +1,5 @@
 -- `step_from`: at each code the table of codes computes to that code's step; past them all its tests fail. Assumes nothing.
 use borrow.Author.Tests.{ne_eqb}
-use borrow.Author.Rules.{rules}
 use Rattle.kernel.specs.Steps.{step_from}
 use Rattle.kernel.proofs.steps.step_from.Goals as goal
 

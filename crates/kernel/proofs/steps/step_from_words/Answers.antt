@@ -1,5 +1,4 @@
 -- `step_from_words`: the code and the register of the word, as the definition takes them. Assumes nothing.
-use borrow.Author.Rules.{rules}
 use Rattle.kernel.specs.Steps.{step_of}
 use Rattle.kernel.proofs.steps.step_from_words.Goals as goal
 

@@ -1,7 +1,6 @@
 -- `step_named`: at each code the table of codes has that code's step, tested or not; past them the last. Assumes nothing.
 use lib.Dec.{eqb}
 use borrow.Author.Tests.{ne_eqb}
-use borrow.Author.Rules.{rules}
 use Rattle.kernel.specs.Steps.{step_from}
 use Rattle.kernel.specs.Named.{step_if}
 use Rattle.kernel.proofs.steps.step_named.Goals as goal

@@ -1,6 +1,5 @@
 -- `step_word`: the code and the register by their contracts; a code is at most 13, so nothing wraps. Assumes nothing.
 use native.Mathlib.Omega.{arith}
-use borrow.Author.Rules.{rules}
 use Rattle.kernel.specs.Steps.{step_word}
 use Rattle.kernel.specs.RoundTrips.{step_code_small}
 use Rattle.kernel.proofs.steps.step_word.Goals as goal

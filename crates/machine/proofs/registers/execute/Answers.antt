@@ -1,7 +1,6 @@
 -- `execute`: the result goes to the destination. Assumes nothing.
 use mathlib.Core.Path.{◌∙◌}
 use Rattle.machine.specs.Machine.{execute}
-use borrow.Author.Rules.{rules}
 use Rattle.machine.proofs.registers.execute.Goals as goal
 
 pub returns : goal.returns

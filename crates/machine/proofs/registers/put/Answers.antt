@@ -1,8 +1,7 @@
 -- `put`: after k places the registers are those that came with the one place set if it was among them (specs/Registers). Assumes nothing.
 use mathlib.Core.Path.{◌≡◌, ◌∙◌}
-use Prim.Native.Nat.{◌-◌, ◌≤◌}
 use native.Mathlib.Omega.{arith}
-use Rattle.machine.specs.Registers.{up_to, up_to_start, up_to_next, up_to_end}
+use Rattle.machine.specs.Registers.{up_to_start, up_to_next, up_to_end}
 use lib.ListN.{length}
 use borrow.Author.Rules.{rules}
 use Rattle.machine.proofs.registers.put.Goals as goal

@@ -1,9 +1,6 @@
-use mathlib.Core.Path.{◌≡◌, ◌∙◌}
+use mathlib.Core.Path.{◌≡◌}
 use Prim.Native.Nat.{◌-◌, ◌≤◌}
-use native.Mathlib.Omega.{arith}
-use Rattle.machine.specs.Registers.{up_to, up_to_start, up_to_next, up_to_end}
-use lib.ListN.{length}
-use borrow.Author.Rules.{rules}
+use Rattle.machine.specs.Registers.{up_to}
 use Rattle.machine.proofs.registers.put.Given as goal
 
 abbrev pub invariant-loop-k : goal.invariant-loop-k

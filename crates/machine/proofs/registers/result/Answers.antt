@@ -1,5 +1,4 @@
 -- `result`: each arm does the operation of its instruction on the registers that it names. Assumes nothing.
-use borrow.Author.Rules.{rules}
 use Rattle.machine.proofs.registers.result.Goals as goal
 
 pub returns-in-Add : goal.returns-in-Add

@@ -4,7 +4,6 @@ use native.Mathlib.Omega.{arith}
 use lib.ListN.{length}
 use Rattle.kernel.specs.Lists.{sizes}
 use Rattle.machine.specs.StepArms.{inside_parameter, inside_state, inside_delay, inside_control}
-use borrow.Author.Rules.{rules}
 use Rattle.machine.proofs.steps.loaded.Goals as goal
 
 pub bounds-settings-place : goal.bounds-settings-place

@@ -1,6 +1,5 @@
 -- `read_slot`: a word of the part is the word of the table. Assumes nothing.
 use Rattle.machine.specs.StepArms.{part_length, slot_at}
-use borrow.Author.Rules.{rules}
 use Rattle.machine.proofs.steps.read_slot.Goals as goal
 
 pub bounds-words-place : goal.bounds-words-place

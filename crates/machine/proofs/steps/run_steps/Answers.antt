@@ -1,14 +1,11 @@
 -- `run_steps`: after i turns the machine is the one after i steps, its tables as long as they were (`Going` of specs/StepLaws). Assumes nothing.
 use mathlib.Core.Path.{◌≡◌, refl, sym, ap, ◌∙◌}
-use Prim.Native.Nat.{ℕ, ◌+◌, ◌-◌, ◌*◌, ◌≤◌, ◌<◌}
+use Prim.Native.Nat.{ℕ, ◌+◌}
 use native.Mathlib.Omega.{arith}
-use lib.ListN.{length}
 use Rattle.memory.specs.Lines.{memories}
-use Rattle.memory.specs.Fit.{line_lengths}
-use Rattle.memory.specs.Signals.{given}
-use Rattle.machine.specs.Machine.{machine, program}
+use Rattle.machine.specs.Machine.{machine}
 use Rattle.machine.specs.Ready.{Lengths}
-use Rattle.machine.specs.StepLaws.{Going, going_start, going_ready, going_may, going_turn}
+use Rattle.machine.specs.StepLaws.{going_start, going_ready, going_may, going_turn}
 use Rattle.machine.proofs.steps.run_steps.Goals as goal
 
 pub loop-i-init : goal.loop-i-init

@@ -1,13 +1,10 @@
-use mathlib.Core.Path.{◌≡◌, refl, sym, ap, ◌∙◌}
-use Prim.Native.Nat.{ℕ, ◌+◌, ◌-◌, ◌*◌, ◌≤◌, ◌<◌}
-use native.Mathlib.Omega.{arith}
+use Prim.Native.Nat.{◌+◌, ◌-◌, ◌*◌, ◌≤◌, ◌<◌}
 use lib.ListN.{length}
 use Rattle.memory.specs.Lines.{memories}
 use Rattle.memory.specs.Fit.{line_lengths}
 use Rattle.memory.specs.Signals.{given}
 use Rattle.machine.specs.Machine.{machine, program}
-use Rattle.machine.specs.Ready.{Lengths}
-use Rattle.machine.specs.StepLaws.{Going, going_start, going_ready, going_may, going_turn}
+use Rattle.machine.specs.StepLaws.{Going}
 use Rattle.machine.proofs.steps.run_steps.Given as goal
 
 abbrev pub invariant-loop-i : goal.invariant-loop-i

@@ -3,7 +3,6 @@ use mathlib.Core.Path.{sym}
 use native.Mathlib.Omega.{arith}
 use lib.Seq.{length-take-le}
 use Rattle.machine.specs.StepArms.{slot_in, stored_control, stored_spills}
-use borrow.Author.Rules.{rules}
 use Rattle.machine.proofs.steps.store_slot.Goals as goal
 
 pub slice_bounds-store-end-in-Control : goal.slice_bounds-store-end-in-Control

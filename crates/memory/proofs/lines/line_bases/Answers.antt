@@ -1,14 +1,9 @@
 -- `line_bases`: before turn i the base is the sum of the lengths before line i, and the first i words are the bases. Assumes nothing.
-use mathlib.Core.Path.{◌≡◌, sym}
-use Prim.Native.Nat.{◌-◌, ◌≤◌}
+use mathlib.Core.Path.{sym}
 use native.Mathlib.Omega.{arith}
-use Rattle.tables.specs.Loops.{sum, sum_start, sum_turn}
-use Rattle.block.specs.Block.{delay_length}
-use Rattle.memory.specs.Lines.{line_base}
-use Rattle.memory.specs.Fit.{line_lengths}
-use Rattle.tables.specs.Lists.{filled, filled_start}
+use Rattle.tables.specs.Loops.{sum_start, sum_turn}
+use Rattle.tables.specs.Lists.{filled_start}
 use Rattle.memory.specs.LineLaws.{bases_room, bases_next, bases_end}
-use borrow.Author.Rules.{rules}
 use Rattle.memory.proofs.lines.line_bases.Goals as goal
 
 pub loop-i-init : goal.loop-i-init

@@ -1,13 +1,10 @@
-use mathlib.Core.Path.{◌≡◌, sym}
+use mathlib.Core.Path.{◌≡◌}
 use Prim.Native.Nat.{◌-◌, ◌≤◌}
-use native.Mathlib.Omega.{arith}
-use Rattle.tables.specs.Loops.{sum, sum_start, sum_turn}
+use Rattle.tables.specs.Loops.{sum}
 use Rattle.block.specs.Block.{delay_length}
 use Rattle.memory.specs.Lines.{line_base}
 use Rattle.memory.specs.Fit.{line_lengths}
-use Rattle.tables.specs.Lists.{filled, filled_start}
-use Rattle.memory.specs.LineLaws.{bases_room, bases_next, bases_end}
-use borrow.Author.Rules.{rules}
+use Rattle.tables.specs.Lists.{filled}
 use Rattle.memory.proofs.lines.line_bases.Given as goal
 
 abbrev pub invariant-loop-i : goal.invariant-loop-i

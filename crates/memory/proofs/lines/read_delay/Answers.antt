@@ -1,7 +1,6 @@
 -- `read_delay`: base and cursor lie in the area by `reached`, and the cell there is `read_delay`'s. Assumes nothing.
 use native.Mathlib.Omega.{arith}
 use Rattle.memory.specs.LineLaws.{reached, cell_read}
-use borrow.Author.Rules.{rules}
 use Rattle.memory.proofs.lines.read_delay.Goals as goal
 
 pub overflow_add-result : goal.overflow_add-result

@@ -2,7 +2,6 @@
 use lib.ListN.{length-set}
 use native.Mathlib.Omega.{arith}
 use Rattle.memory.specs.LineLaws.{rem_word}
-use borrow.Author.Rules.{rules}
 use Rattle.memory.proofs.lines.store_and_advance.Goals as goal
 
 pub nonzero_rem-result : goal.nonzero_rem-result

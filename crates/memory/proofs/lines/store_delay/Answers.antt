@@ -1,7 +1,6 @@
 -- `store_delay`: the part from base to base plus length is the line, and the store in it is the line's store in the area. Assumes nothing.
 use native.Mathlib.Omega.{arith}
 use Rattle.memory.specs.LineLaws.{reached, part_room, part_stored}
-use borrow.Author.Rules.{rules}
 use Rattle.memory.proofs.lines.store_delay.Goals as goal
 
 pub bounds-delays-i : goal.bounds-delays-i

@@ -1,13 +1,11 @@
 -- `area_fits`: the running total is the sum so far and no longer than the area; where it is longer, so is the whole sum. Assumes nothing.
-use mathlib.Core.Path.{◌≡◌, sym, ap}
-use Prim.Native.Nat.{◌*◌, ◌-◌, ◌≤◌}
-use lib.ListN.{length}
+use mathlib.Core.Path.{sym, ap}
+use Prim.Native.Nat.{◌*◌}
 use lib.Dec.{eqb}
 use native.Mathlib.Omega.{arith}
-use Rattle.tables.specs.Loops.{sum, sum_start, sum_turn, sum_end}
+use Rattle.tables.specs.Loops.{sum_start, sum_turn, sum_end}
 use Rattle.block.specs.Block.{delay_length}
 use Rattle.memory.specs.SizeLaws.{area_stop}
-use borrow.Author.Rules.{rules}
 use Rattle.memory.proofs.sizes.area_fits.Goals as goal
 
 pub loop-i-init : goal.loop-i-init

@@ -1,16 +1,11 @@
 -- `cursors_below`: every cursor before turn i is below its length. Assumes nothing.
-use mathlib.Core.Path.{◌≡◌, sym}
-use mathlib.Core.Bool.{true}
-use mathlib.Core.List.{List}
-use Prim.Native.Nat.{ℕ, ◌-◌, ◌≤◌}
+use mathlib.Core.Path.{sym}
 use lib.ListN.{get_or}
 use native.Mathlib.Omega.{arith}
 use borrow.Author.Tests.{lt-ltb, le-ltb}
-use Rattle.tables.specs.Loops.{every, every_start, every_next, every_stop, every_end}
-use Rattle.block.specs.declared.Header.{Header}
-use Rattle.block.specs.Block.{block, delay_length}
+use Rattle.tables.specs.Loops.{every_start, every_next, every_stop, every_end}
+use Rattle.block.specs.Block.{delay_length}
 use Rattle.memory.specs.Sizes.{cursor_below, cursors_below}
-use borrow.Author.Rules.{rules}
 use Rattle.memory.proofs.sizes.cursors_below.Goals as goal
 
 pub loop-i-init : goal.loop-i-init

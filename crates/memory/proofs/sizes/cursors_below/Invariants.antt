@@ -1,15 +1,11 @@
-use mathlib.Core.Path.{◌≡◌, sym}
+use mathlib.Core.Path.{◌≡◌}
 use mathlib.Core.Bool.{true}
 use mathlib.Core.List.{List}
 use Prim.Native.Nat.{ℕ, ◌-◌, ◌≤◌}
-use lib.ListN.{get_or}
-use native.Mathlib.Omega.{arith}
-use borrow.Author.Tests.{lt-ltb, le-ltb}
-use Rattle.tables.specs.Loops.{every, every_start, every_next, every_stop, every_end}
+use Rattle.tables.specs.Loops.{every}
 use Rattle.block.specs.declared.Header.{Header}
-use Rattle.block.specs.Block.{block, delay_length}
-use Rattle.memory.specs.Sizes.{cursor_below, cursors_below}
-use borrow.Author.Rules.{rules}
+use Rattle.block.specs.Block.{block}
+use Rattle.memory.specs.Sizes.{cursor_below}
 use Rattle.memory.proofs.sizes.cursors_below.Given as goal
 
 abbrev pub invariant-loop-i : goal.invariant-loop-i

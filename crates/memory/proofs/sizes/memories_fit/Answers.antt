@@ -3,7 +3,6 @@ use mathlib.Core.Path.{sym, ◌∙◌}
 use borrow.Author.Tests.{eq-eqb, ne_eqb}
 use Rattle.tables.specs.Tests.{&_left, &_next}
 use Rattle.memory.specs.Sizes.{memories_fit}
-use borrow.Author.Rules.{rules}
 use Rattle.memory.proofs.sizes.memories_fit.Goals as goal
 
 pub returns-then-held-states : goal.returns-then-held-states

@@ -1,11 +1,10 @@
 -- `run_fits`: each way out is one part of the definition's conjunction. Assumes nothing.
 use mathlib.Core.Path.{sym, ◌∙◌}
 use mathlib.Core.List.{[]}
-use borrow.Author.Tests.{eq-eqb, ne_eqb, not-true, not-false}
+use borrow.Author.Tests.{eq-eqb, ne_eqb}
 use Rattle.tables.specs.Tests.{&_left, &_next}
 use Rattle.memory.specs.Sizes.{run_fits}
 use Rattle.memory.specs.SizeLaws.{held}
-use borrow.Author.Rules.{rules}
 use Rattle.memory.proofs.sizes.run_fits.Goals as goal
 
 pub returns-then-not-signals_fit : goal.returns-then-not-signals_fit

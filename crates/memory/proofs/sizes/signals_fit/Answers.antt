@@ -3,7 +3,6 @@ use mathlib.Core.Path.{sym, ◌∙◌}
 use borrow.Author.Tests.{eq-eqb, ne_eqb}
 use Rattle.tables.specs.Tests.{&_left, &_next, &_true, or_left}
 use Rattle.memory.specs.Sizes.{signals_fit}
-use borrow.Author.Rules.{rules}
 use Rattle.memory.proofs.sizes.signals_fit.Goals as goal
 
 pub returns-then-output-input : goal.returns-then-output-input

@@ -1,10 +1,7 @@
 -- `control_tasks`: before turn i the tasks of the first i nodes stand written. Assumes nothing.
-use mathlib.Core.Path.{◌≡◌, refl}
-use Prim.Native.Nat.{◌-◌, ◌≤◌, ◌*◌}
+use mathlib.Core.Path.{refl}
 use native.Mathlib.Omega.{arith}
-use lib.ListN.{length}
-use Rattle.plan.specs.ControlLaws.{Controls, controls_start, control_most, controls_next, controls_end}
-use borrow.Author.Rules.{rules}
+use Rattle.plan.specs.ControlLaws.{controls_start, control_most, controls_next, controls_end}
 use Rattle.plan.proofs.control.control_tasks.Goals as goal
 
 pub loop-i-init : goal.loop-i-init

@@ -1,9 +1,7 @@
-use mathlib.Core.Path.{◌≡◌, refl}
+use mathlib.Core.Path.{◌≡◌}
 use Prim.Native.Nat.{◌-◌, ◌≤◌, ◌*◌}
-use native.Mathlib.Omega.{arith}
 use lib.ListN.{length}
-use Rattle.plan.specs.ControlLaws.{Controls, controls_start, control_most, controls_next, controls_end}
-use borrow.Author.Rules.{rules}
+use Rattle.plan.specs.ControlLaws.{Controls}
 use Rattle.plan.proofs.control.control_tasks.Given as goal
 
 abbrev pub invariant-loop-i : goal.invariant-loop-i

@@ -1,6 +1,5 @@
 -- `is_control`: both ways out. Assumes nothing.
 use Rattle.plan.specs.ControlLaws.{controls_yes, controls_no}
-use borrow.Author.Rules.{rules}
 use Rattle.plan.proofs.control.is_control.Goals as goal
 
 pub returns-then-work-count-eq1 : goal.returns-then-work-count-eq1

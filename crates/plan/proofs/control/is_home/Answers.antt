@@ -1,6 +1,5 @@
 -- `is_home`: both ways out. Assumes nothing.
 use Rattle.plan.specs.ControlLaws.{home_yes, home_no}
-use borrow.Author.Rules.{rules}
 use Rattle.plan.proofs.control.is_home.Goals as goal
 
 pub returns-then-work-base-eq1 : goal.returns-then-work-base-eq1

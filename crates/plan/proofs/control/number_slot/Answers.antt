@@ -2,7 +2,6 @@
 use native.Mathlib.Omega.{arith}
 use lib.ListN.{length-set}
 use Rattle.plan.specs.ControlLaws.{slot_given, slot_none}
-use borrow.Author.Rules.{rules}
 use Rattle.plan.proofs.control.number_slot.Goals as goal
 
 pub bounds-work-count-then-is_home : goal.bounds-work-count-then-is_home

@@ -1,10 +1,7 @@
 -- `number_slots`: before turn i the first i nodes have their slots. Assumes nothing.
-use mathlib.Core.Path.{◌≡◌, refl}
-use Prim.Native.Nat.{◌-◌, ◌≤◌}
+use mathlib.Core.Path.{refl}
 use native.Mathlib.Omega.{arith}
-use lib.ListN.{length}
-use Rattle.plan.specs.ControlLaws.{home_in, Numbers, numbers_start, numbers_few, numbers_next, numbers_end}
-use borrow.Author.Rules.{rules}
+use Rattle.plan.specs.ControlLaws.{home_in, numbers_start, numbers_few, numbers_next, numbers_end}
 use Rattle.plan.proofs.control.number_slots.Goals as goal
 
 pub loop-i-init : goal.loop-i-init

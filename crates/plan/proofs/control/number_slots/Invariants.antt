@@ -1,9 +1,7 @@
-use mathlib.Core.Path.{◌≡◌, refl}
+use mathlib.Core.Path.{◌≡◌}
 use Prim.Native.Nat.{◌-◌, ◌≤◌}
-use native.Mathlib.Omega.{arith}
 use lib.ListN.{length}
-use Rattle.plan.specs.ControlLaws.{home_in, Numbers, numbers_start, numbers_few, numbers_next, numbers_end}
-use borrow.Author.Rules.{rules}
+use Rattle.plan.specs.ControlLaws.{Numbers}
 use Rattle.plan.proofs.control.number_slots.Given as goal
 
 abbrev pub invariant-loop-i : goal.invariant-loop-i

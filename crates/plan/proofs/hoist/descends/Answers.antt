@@ -1,6 +1,5 @@
 -- `descends`: both ways out. Assumes nothing.
 use Rattle.plan.specs.HoistLaws.{descends_always, descends_unless}
-use borrow.Author.Rules.{rules}
 use Rattle.plan.proofs.hoist.descends.Goals as goal
 
 pub returns-then-through : goal.returns-then-through

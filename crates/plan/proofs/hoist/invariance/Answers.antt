@@ -1,11 +1,8 @@
 -- `invariance`: before turn i the flags of the first i nodes stand written. Assumes nothing.
 use mathlib.Core.Path.{◌≡◌, refl}
-use Prim.Native.Nat.{◌-◌, ◌≤◌}
 use native.Mathlib.Omega.{arith}
-use lib.ListN.{length, length-set}
-use Rattle.plan.specs.Regions.{written, flags}
-use Rattle.plan.specs.HoistLaws.{invariant_to, invariance_start, invariance_next}
-use borrow.Author.Rules.{rules}
+use lib.ListN.{length-set}
+use Rattle.plan.specs.HoistLaws.{invariance_start, invariance_next}
 use Rattle.plan.proofs.hoist.invariance.Goals as goal
 
 pub loop-i-init : goal.loop-i-init

@@ -1,10 +1,8 @@
-use mathlib.Core.Path.{◌≡◌, refl}
+use mathlib.Core.Path.{◌≡◌}
 use Prim.Native.Nat.{◌-◌, ◌≤◌}
-use native.Mathlib.Omega.{arith}
-use lib.ListN.{length, length-set}
+use lib.ListN.{length}
 use Rattle.plan.specs.Regions.{written, flags}
-use Rattle.plan.specs.HoistLaws.{invariant_to, invariance_start, invariance_next}
-use borrow.Author.Rules.{rules}
+use Rattle.plan.specs.HoistLaws.{invariant_to}
 use Rattle.plan.proofs.hoist.invariance.Given as goal
 
 abbrev pub invariant-loop-i : goal.invariant-loop-i

@@ -2,7 +2,6 @@
 use native.Mathlib.Omega.{arith}
 use Prim.Native.Nat.{◌+◌, ◌*◌}
 use Rattle.plan.specs.Words.{operands_before, word_constant, word_parameter, word_other, word_one, word_varies, word_both}
-use borrow.Author.Rules.{rules}
 use Rattle.plan.proofs.hoist.invariant_word.Goals as goal
 
 pub operand_count-count-requires : goal.operand_count-count-requires

@@ -1,6 +1,5 @@
 -- `is_hoistable`: both ways out. Assumes nothing.
 use Rattle.plan.specs.HoistLaws.{hoistable_yes, hoistable_no}
-use borrow.Author.Rules.{rules}
 use Rattle.plan.proofs.hoist.is_hoistable.Goals as goal
 
 pub returns-then-work-i-eq1 : goal.returns-then-work-i-eq1

@@ -4,7 +4,6 @@ use Prim.Native.Nat.{◌+◌, ◌*◌}
 use lib.ListN.{length-set}
 use Rattle.plan.specs.Words.{operands_before}
 use Rattle.plan.specs.HoistLaws.{marked_none, marked_one, marked_two}
-use borrow.Author.Rules.{rules}
 use Rattle.plan.proofs.hoist.mark_operands.Goals as goal
 
 pub returns-then-count-eq0 : goal.returns-then-count-eq0

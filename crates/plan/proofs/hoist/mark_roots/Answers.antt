@@ -5,7 +5,6 @@ use lib.ListN.{length, length-set}
 use Rattle.plan.specs.Nodes.{updates_of}
 use Rattle.plan.specs.HoistLaws.{marked_length}
 use Rattle.plan.specs.RootLaws.{roots_all}
-use borrow.Author.Rules.{rules}
 use Rattle.plan.proofs.hoist.mark_roots.Goals as goal
 
 pub mark_updates-requires : goal.mark_updates-requires

@@ -1,6 +1,5 @@
 -- `mark_update`: both ways out. Assumes nothing.
 use Rattle.plan.specs.RootLaws.{update_none, update_some}
-use borrow.Author.Rules.{rules}
 use Rattle.plan.proofs.hoist.mark_update.Goals as goal
 
 pub returns-then-update-eq0 : goal.returns-then-update-eq0

@@ -1,12 +1,7 @@
 -- `mark_updates`: before turn i the first i updates are marked. Assumes nothing.
-use mathlib.Core.Path.{◌≡◌, refl}
-use Prim.Native.Nat.{◌-◌, ◌≤◌}
+use mathlib.Core.Path.{refl}
 use native.Mathlib.Omega.{arith}
-use lib.ListN.{length, take}
-use Rattle.plan.specs.Nodes.{updates_of}
-use Rattle.plan.specs.Words.{marked}
 use Rattle.plan.specs.RootLaws.{updates_start, updates_next, updates_end}
-use borrow.Author.Rules.{rules}
 use Rattle.plan.proofs.hoist.mark_updates.Goals as goal
 
 pub loop-i-init : goal.loop-i-init

@@ -1,11 +1,8 @@
-use mathlib.Core.Path.{◌≡◌, refl}
+use mathlib.Core.Path.{◌≡◌}
 use Prim.Native.Nat.{◌-◌, ◌≤◌}
-use native.Mathlib.Omega.{arith}
 use lib.ListN.{length, take}
 use Rattle.plan.specs.Nodes.{updates_of}
 use Rattle.plan.specs.Words.{marked}
-use Rattle.plan.specs.RootLaws.{updates_start, updates_next, updates_end}
-use borrow.Author.Rules.{rules}
 use Rattle.plan.proofs.hoist.mark_updates.Given as goal
 
 abbrev pub invariant-loop-i : goal.invariant-loop-i

@@ -1,7 +1,6 @@
 -- `operand_count`: the operands of the kind of its code. Assumes nothing.
 use mathlib.Core.Path.{ap, ◌∙◌}
 use Rattle.block.specs.Kinds.{operands_of}
-use borrow.Author.Rules.{rules}
 use Rattle.plan.proofs.hoist.operand_count.Goals as goal
 
 pub returns : goal.returns

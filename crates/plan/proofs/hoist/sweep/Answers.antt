@@ -1,10 +1,7 @@
 -- `sweep`: at each turn what is left of the sweep is done from the marks made so far. Assumes nothing.
-use mathlib.Core.Path.{◌≡◌, refl}
-use Prim.Native.Nat.{◌≤◌}
+use mathlib.Core.Path.{refl}
 use native.Mathlib.Omega.{arith}
-use lib.ListN.{length}
-use Rattle.plan.specs.HoistLaws.{Sweeps, sweep_start, sweep_next, sweep_end}
-use borrow.Author.Rules.{rules}
+use Rattle.plan.specs.HoistLaws.{sweep_start, sweep_next, sweep_end}
 use Rattle.plan.proofs.hoist.sweep.Goals as goal
 
 pub loop-i-init : goal.loop-i-init

@@ -1,9 +1,7 @@
-use mathlib.Core.Path.{◌≡◌, refl}
+use mathlib.Core.Path.{◌≡◌}
 use Prim.Native.Nat.{◌≤◌}
-use native.Mathlib.Omega.{arith}
 use lib.ListN.{length}
-use Rattle.plan.specs.HoistLaws.{Sweeps, sweep_start, sweep_next, sweep_end}
-use borrow.Author.Rules.{rules}
+use Rattle.plan.specs.HoistLaws.{Sweeps}
 use Rattle.plan.proofs.hoist.sweep.Given as goal
 
 abbrev pub invariant-loop-i : goal.invariant-loop-i

@@ -1,6 +1,5 @@
 -- `sweep_node`: a law for each way out. Assumes nothing.
 use Rattle.plan.specs.HoistLaws.{swept_unmarked, swept_down, swept_not}
-use borrow.Author.Rules.{rules}
 use Rattle.plan.proofs.hoist.sweep_node.Goals as goal
 
 pub returns-then-work-base-eq0 : goal.returns-then-work-base-eq0

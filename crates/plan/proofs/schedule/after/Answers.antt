@@ -2,7 +2,6 @@
 use native.Mathlib.Omega.{arith}
 use Rattle.plan.specs.Layout.{room_in}
 use Rattle.plan.specs.LastLaws.{after_read, after_own, after_later}
-use borrow.Author.Rules.{rules}
 use mathlib.Core.Path.{ap}
 use mathlib.Core.Bool.{not}
 use Rattle.plan.proofs.schedule.after.Goals as goal

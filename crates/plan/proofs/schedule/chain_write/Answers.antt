@@ -2,7 +2,6 @@
 use native.Mathlib.Omega.{arith}
 use Rattle.plan.specs.Layout.{room_in}
 use Rattle.plan.specs.LastLaws.{after_small, chain_none, chain_some}
-use borrow.Author.Rules.{rules}
 use Rattle.plan.proofs.schedule.chain_write.Goals as goal
 
 pub returns-then-update-eq0 : goal.returns-then-update-eq0

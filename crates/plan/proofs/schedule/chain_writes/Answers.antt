@@ -1,12 +1,8 @@
 -- `chain_writes`: at each turn what is left is done from the chains made so far. Assumes nothing.
-use mathlib.Core.Path.{◌≡◌, refl}
-use mathlib.Core.List.{◌++◌}
-use Prim.Native.Nat.{◌+◌, ◌-◌, ◌≤◌}
+use mathlib.Core.Path.{refl}
+use Prim.Native.Nat.{◌-◌}
 use native.Mathlib.Omega.{arith}
-use lib.ListN.{length}
-use Rattle.plan.specs.Chains.{Reading, chain_writes}
 use Rattle.plan.specs.LastLaws.{chain_kept, chains_next, chains_end}
-use borrow.Author.Rules.{rules}
 use Rattle.plan.proofs.schedule.chain_writes.Goals as goal
 
 pub loop-w-init : goal.loop-w-init

@@ -1,11 +1,8 @@
-use mathlib.Core.Path.{◌≡◌, refl}
+use mathlib.Core.Path.{◌≡◌}
 use mathlib.Core.List.{◌++◌}
-use Prim.Native.Nat.{◌+◌, ◌-◌, ◌≤◌}
-use native.Mathlib.Omega.{arith}
+use Prim.Native.Nat.{◌+◌, ◌≤◌}
 use lib.ListN.{length}
 use Rattle.plan.specs.Chains.{Reading, chain_writes}
-use Rattle.plan.specs.LastLaws.{chain_kept, chains_next, chains_end}
-use borrow.Author.Rules.{rules}
 use Rattle.plan.proofs.schedule.chain_writes.Given as goal
 
 abbrev pub invariant-loop-w : goal.invariant-loop-w

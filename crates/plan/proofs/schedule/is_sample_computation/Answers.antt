@@ -1,6 +1,5 @@
 -- `is_sample_computation`: a law for each way out. Assumes nothing.
 use Rattle.plan.specs.SampleLaws.{sample_yes, sample_slot, sample_no}
-use borrow.Author.Rules.{rules}
 use Rattle.plan.proofs.schedule.is_sample_computation.Goals as goal
 
 pub returns-then-work-count-eq0 : goal.returns-then-work-count-eq0

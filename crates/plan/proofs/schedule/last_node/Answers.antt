@@ -1,6 +1,5 @@
 -- `last_node`: a law for each way out. Assumes nothing.
 use Rattle.plan.specs.LastLaws.{last_no, last_yes}
-use borrow.Author.Rules.{rules}
 use mathlib.Core.Path.{ap}
 use mathlib.Core.Bool.{not}
 use Rattle.plan.proofs.schedule.last_node.Goals as goal

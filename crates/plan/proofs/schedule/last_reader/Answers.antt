@@ -2,7 +2,6 @@
 use native.Mathlib.Omega.{arith}
 use Prim.Native.Nat.{◌+◌}
 use Rattle.plan.specs.LastLaws.{reading_home, reader_none, reader_some}
-use borrow.Author.Rules.{rules}
 use Rattle.plan.proofs.schedule.last_reader.Goals as goal
 
 pub overflow_cast-home : goal.overflow_cast-home

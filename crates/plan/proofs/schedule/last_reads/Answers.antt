@@ -1,12 +1,9 @@
 -- `last_reads`: before turn i the first i nodes have had theirs. Assumes nothing.
-use mathlib.Core.Path.{◌≡◌, refl, sym, ◌∙◌}
-use Prim.Native.Nat.{◌-◌, ◌≤◌}
+use mathlib.Core.Path.{refl, sym, ◌∙◌}
 use native.Mathlib.Omega.{arith}
-use lib.ListN.{length}
-use Rattle.tables.specs.Loops.{turns, turns_start, turns_next, turns_end}
+use Rattle.tables.specs.Loops.{turns_start, turns_next, turns_end}
 use Rattle.plan.specs.Chains.{last_node}
 use Rattle.plan.specs.LastLaws.{turns_kept}
-use borrow.Author.Rules.{rules}
 use Rattle.plan.proofs.schedule.last_reads.Goals as goal
 
 pub loop-i-init : goal.loop-i-init

@@ -2,7 +2,6 @@
 use native.Mathlib.Omega.{arith}
 use lib.ListN.{length-set}
 use Rattle.plan.specs.LastLaws.{linked_is}
-use borrow.Author.Rules.{rules}
 use Rattle.plan.proofs.schedule.link_write.Goals as goal
 
 pub bounds-work-heads-2 : goal.bounds-work-heads-2

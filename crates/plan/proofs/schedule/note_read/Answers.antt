@@ -1,7 +1,6 @@
 -- `note_read`: the first node is a node. Assumes nothing.
 use native.Mathlib.Omega.{arith}
 use Rattle.plan.specs.LastLaws.{canonicals_at, read_is}
-use borrow.Author.Rules.{rules}
 use Rattle.plan.proofs.schedule.note_read.Goals as goal
 
 pub overflow_cast-first : goal.overflow_cast-first

@@ -4,7 +4,6 @@ use Prim.Native.Nat.{◌+◌, ◌*◌}
 use Rattle.plan.specs.Layout.{room_in}
 use Rattle.plan.specs.Words.{operands_before}
 use Rattle.plan.specs.LastLaws.{read_again, read_none, read_one, read_two}
-use borrow.Author.Rules.{rules}
 use Rattle.plan.proofs.schedule.note_reads.Goals as goal
 
 pub returns-then-count-eq0 : goal.returns-then-count-eq0

@@ -1,11 +1,8 @@
 -- `push_chain`: what is pushed, and what the chain still has, are the writes. Assumes nothing.
-use mathlib.Core.Path.{◌≡◌, refl}
-use Prim.Native.Nat.{◌+◌, ◌≤◌}
+use mathlib.Core.Path.{refl}
 use native.Mathlib.Omega.{arith}
-use lib.ListN.{length, length-set}
-use Rattle.plan.specs.Chains.{Chained}
-use Rattle.plan.specs.ChainLaws.{Pushing, sizes_of, to_go, head_low, pushing_start, pushing_room, pushing_next, pushing_less, pushing_end}
-use borrow.Author.Rules.{rules}
+use lib.ListN.{length-set}
+use Rattle.plan.specs.ChainLaws.{head_low, pushing_start, pushing_room, pushing_next, pushing_less, pushing_end}
 use Rattle.plan.proofs.schedule.push_chain.Goals as goal
 
 pub overflow_cast-word : goal.overflow_cast-word

@@ -1,10 +1,8 @@
-use mathlib.Core.Path.{◌≡◌, refl}
+use mathlib.Core.Path.{◌≡◌}
 use Prim.Native.Nat.{◌+◌, ◌≤◌}
-use native.Mathlib.Omega.{arith}
-use lib.ListN.{length, length-set}
+use lib.ListN.{length}
 use Rattle.plan.specs.Chains.{Chained}
-use Rattle.plan.specs.ChainLaws.{Pushing, sizes_of, to_go, head_low, pushing_start, pushing_room, pushing_next, pushing_less, pushing_end}
-use borrow.Author.Rules.{rules}
+use Rattle.plan.specs.ChainLaws.{Pushing, sizes_of, to_go}
 use Rattle.plan.proofs.schedule.push_chain.Given as goal
 
 abbrev pub invariant-loop-word : goal.invariant-loop-word

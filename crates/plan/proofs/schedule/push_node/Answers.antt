@@ -5,7 +5,6 @@ use native.Mathlib.Omega.{arith}
 use lib.ListN.{length-set}
 use Rattle.plan.specs.Layout.{room_in}
 use Rattle.plan.specs.ChainLaws.{node_none, node_room, node_ready, node_some}
-use borrow.Author.Rules.{rules}
 use mathlib.Core.Path.{ap}
 use mathlib.Core.Bool.{not}
 use Rattle.plan.proofs.schedule.push_node.Goals as goal

@@ -1,12 +1,9 @@
 -- `sample_tasks`: before turn i the tasks of the first i nodes stand in the region. Assumes nothing.
-use mathlib.Core.Path.{◌≡◌, refl, ◌∙◌}
-use mathlib.Core.List.{List}
-use Prim.Native.Nat.{ℕ, ◌-◌, ◌≤◌}
+use mathlib.Core.Path.{refl, ◌∙◌}
 use native.Mathlib.Omega.{arith}
-use lib.ListN.{length, length-set}
+use lib.ListN.{length-set}
 use Rattle.plan.specs.Layout.{room_in}
-use Rattle.plan.specs.ChainLaws.{TasksFit, Pushed, first_room, pushed_start, pushed_room, pushed_ready, pushed_next, pushed_end}
-use borrow.Author.Rules.{rules}
+use Rattle.plan.specs.ChainLaws.{first_room, pushed_start, pushed_room, pushed_ready, pushed_next, pushed_end}
 use Rattle.plan.proofs.schedule.sample_tasks.Goals as goal
 
 pub push_chain-tasks-requires : goal.push_chain-tasks-requires

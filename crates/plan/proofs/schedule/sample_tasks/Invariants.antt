@@ -1,11 +1,8 @@
-use mathlib.Core.Path.{◌≡◌, refl, ◌∙◌}
+use mathlib.Core.Path.{◌≡◌}
 use mathlib.Core.List.{List}
 use Prim.Native.Nat.{ℕ, ◌-◌, ◌≤◌}
-use native.Mathlib.Omega.{arith}
-use lib.ListN.{length, length-set}
-use Rattle.plan.specs.Layout.{room_in}
-use Rattle.plan.specs.ChainLaws.{TasksFit, Pushed, first_room, pushed_start, pushed_room, pushed_ready, pushed_next, pushed_end}
-use borrow.Author.Rules.{rules}
+use lib.ListN.{length}
+use Rattle.plan.specs.ChainLaws.{TasksFit, Pushed}
 use Rattle.plan.proofs.schedule.sample_tasks.Given as goal
 
 abbrev pub invariant-loop-i : goal.invariant-loop-i

@@ -1,7 +1,6 @@
 -- `update_of`: a law for each way out. Assumes nothing.
 use native.Mathlib.Omega.{arith}
 use Rattle.plan.specs.LastLaws.{update_state, update_delay}
-use borrow.Author.Rules.{rules}
 use Rattle.plan.proofs.schedule.update_of.Goals as goal
 
 pub returns-then-w-states : goal.returns-then-w-states

@@ -1,11 +1,8 @@
 -- `canonical`: before turn i the first i nodes have had theirs. Assumes nothing.
-use mathlib.Core.Path.{◌≡◌, refl, sym, ◌∙◌}
-use Prim.Native.Nat.{◌-◌, ◌≤◌}
+use mathlib.Core.Path.{refl, sym, ◌∙◌}
 use native.Mathlib.Omega.{arith}
-use lib.ListN.{length}
-use Rattle.tables.specs.Loops.{turns, turns_start, turns_next, turns_end}
+use Rattle.tables.specs.Loops.{turns_start, turns_next, turns_end}
 use Rattle.plan.specs.SourceLaws.{canonical_node}
-use borrow.Author.Rules.{rules}
 use Rattle.plan.proofs.sources.canonical.Goals as goal
 
 pub loop-i-init : goal.loop-i-init

@@ -1,10 +1,8 @@
-use mathlib.Core.Path.{◌≡◌, refl, sym, ◌∙◌}
+use mathlib.Core.Path.{◌≡◌}
 use Prim.Native.Nat.{◌-◌, ◌≤◌}
-use native.Mathlib.Omega.{arith}
 use lib.ListN.{length}
-use Rattle.tables.specs.Loops.{turns, turns_start, turns_next, turns_end}
+use Rattle.tables.specs.Loops.{turns}
 use Rattle.plan.specs.SourceLaws.{canonical_node}
-use borrow.Author.Rules.{rules}
 use Rattle.plan.proofs.sources.canonical.Given as goal
 
 abbrev pub invariant-loop-i : goal.invariant-loop-i

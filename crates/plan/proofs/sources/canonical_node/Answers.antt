@@ -3,7 +3,6 @@ use native.Mathlib.Omega.{arith}
 use Prim.Native.Nat.{◌+◌, ◌*◌}
 use lib.ListN.{length-set}
 use Rattle.plan.specs.SourceLaws.{place_low_of, turn_none, turn_first, turn_again}
-use borrow.Author.Rules.{rules}
 use Rattle.plan.proofs.sources.canonical_node.Goals as goal
 
 pub overflow_cast-index : goal.overflow_cast-index

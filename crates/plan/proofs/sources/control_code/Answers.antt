@@ -1,7 +1,6 @@
 -- `control_code`: each way out is a case. Assumes nothing.
 use borrow.Author.Tests.{eq-eqb, ne_eqb}
 use Rattle.plan.specs.SourceLaws.{control_code}
-use borrow.Author.Rules.{rules}
 use Rattle.plan.proofs.sources.control_code.Goals as goal
 
 pub returns-then-code-eq1 : goal.returns-then-code-eq1

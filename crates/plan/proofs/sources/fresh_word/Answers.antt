@@ -1,7 +1,6 @@
 -- `fresh_word`: both ways out. Assumes nothing.
 use borrow.Author.Tests.{eq-eqb, ne_eqb}
 use Rattle.plan.specs.SourceLaws.{fresh_word}
-use borrow.Author.Rules.{rules}
 use Rattle.plan.proofs.sources.fresh_word.Goals as goal
 
 pub returns-then-code-eq0 : goal.returns-then-code-eq0

@@ -1,7 +1,6 @@
 -- `home_place`: each way out is a case. Assumes nothing.
 use borrow.Author.Tests.{eq-eqb, ne_eqb}
 use Rattle.plan.specs.SourceLaws.{place_word}
-use borrow.Author.Rules.{rules}
 use Rattle.plan.proofs.sources.home_place.Goals as goal
 
 pub returns-then-code-eq1 : goal.returns-then-code-eq1

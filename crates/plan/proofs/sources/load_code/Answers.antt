@@ -1,7 +1,6 @@
 -- `load_code`: each way out is a case. Assumes nothing.
 use borrow.Author.Tests.{eq-eqb, ne_eqb}
 use Rattle.plan.specs.SourceLaws.{load_code}
-use borrow.Author.Rules.{rules}
 use Rattle.plan.proofs.sources.load_code.Goals as goal
 
 pub returns-then-code-eq0 : goal.returns-then-code-eq0

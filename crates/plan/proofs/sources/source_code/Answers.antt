@@ -1,6 +1,5 @@
 -- `source_code`: a law for each way out. Assumes nothing.
 use Rattle.plan.specs.SourceLaws.{source_control, source_load, source_slot}
-use borrow.Author.Rules.{rules}
 use Rattle.plan.proofs.sources.source_code.Goals as goal
 
 pub returns-then-control : goal.returns-then-control

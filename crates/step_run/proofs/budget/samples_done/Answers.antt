@@ -2,7 +2,6 @@
 use mathlib.Core.Path.{sym, ap, ◌∙◌}
 use Prim.Native.Nat.{ℕ, min}
 use Rattle.step_run.specs.BudgetLaws.{none_done, done_is}
-use borrow.Author.Rules.{rules}
 use Rattle.step_run.proofs.budget.samples_done.Goals as goal
 
 pub returns-then-budget-kernel : goal.returns-then-budget-kernel

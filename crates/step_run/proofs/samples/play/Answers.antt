@@ -4,7 +4,6 @@ use Rattle.memory.specs.Fit.{line_lengths}
 use Rattle.memory.specs.Signals.{signals}
 use Rattle.step_run.specs.Run.{setup, code_of}
 use Rattle.step_run.specs.SampleLaws.{play_ready, play_listed, play_ran}
-use borrow.Author.Rules.{rules}
 use Rattle.step_run.proofs.samples.play.Goals as goal
 
 pub line_bases-bases-requires : goal.line_bases-bases-requires

@@ -1,7 +1,5 @@
 -- `sample`: the sample steps run from no output word, and what they leave there goes to the output (`sample_ran` of specs/SampleLaws). Assumes nothing.
-use native.Mathlib.Omega.{arith}
 use Rattle.step_run.specs.SampleLaws.{sample_ran}
-use borrow.Author.Rules.{rules}
 use Rattle.step_run.proofs.samples.sample.Goals as goal
 
 pub network_word-heard-requires : goal.network_word-heard-requires

@@ -1,14 +1,12 @@
 -- `samples`: after t turns the machine and the output are those after t samples (`Playing` of specs/SampleLaws). Assumes nothing.
 use mathlib.Core.Path.{◌≡◌, refl, sym, ap, ◌∙◌}
-use Prim.Native.Nat.{ℕ, ◌+◌, ◌-◌, ◌*◌, ◌≤◌, ◌<◌}
+use Prim.Native.Nat.{ℕ, ◌+◌, ◌*◌}
 use native.Mathlib.Omega.{arith}
 use Rattle.memory.specs.Lines.{memories}
-use Rattle.memory.specs.Fit.{line_lengths}
-use Rattle.memory.specs.Signals.{signals}
 use Rattle.machine.specs.Machine.{machine}
-use Rattle.step_run.specs.Run.{setup, code_of, running}
+use Rattle.step_run.specs.Run.{running}
 use Rattle.machine.specs.Ready.{Lengths}
-use Rattle.step_run.specs.SampleLaws.{Playing, playing_start, playing_ready, playing_listed, playing_turn}
+use Rattle.step_run.specs.SampleLaws.{playing_start, playing_ready, playing_listed, playing_turn}
 use Rattle.step_run.proofs.samples.samples.Goals as goal
 
 pub loop-t-init : goal.loop-t-init

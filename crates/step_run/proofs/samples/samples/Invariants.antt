@@ -1,13 +1,10 @@
-use mathlib.Core.Path.{◌≡◌, refl, sym, ap, ◌∙◌}
-use Prim.Native.Nat.{ℕ, ◌+◌, ◌-◌, ◌*◌, ◌≤◌, ◌<◌}
-use native.Mathlib.Omega.{arith}
+use Prim.Native.Nat.{◌-◌, ◌*◌, ◌≤◌, ◌<◌}
 use Rattle.memory.specs.Lines.{memories}
 use Rattle.memory.specs.Fit.{line_lengths}
 use Rattle.memory.specs.Signals.{signals}
 use Rattle.machine.specs.Machine.{machine}
-use Rattle.step_run.specs.Run.{setup, code_of, running}
-use Rattle.machine.specs.Ready.{Lengths}
-use Rattle.step_run.specs.SampleLaws.{Playing, playing_start, playing_ready, playing_listed, playing_turn}
+use Rattle.step_run.specs.Run.{setup, code_of}
+use Rattle.step_run.specs.SampleLaws.{Playing}
 use Rattle.step_run.proofs.samples.samples.Given as goal
 
 abbrev pub invariant-loop-t : goal.invariant-loop-t

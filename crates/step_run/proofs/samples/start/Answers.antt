@@ -3,7 +3,6 @@ use lib.ListN.{length}
 use Rattle.memory.specs.Signals.{signals}
 use Rattle.step_run.specs.Run.{setup}
 use Rattle.step_run.specs.SampleLaws.{ready_cleared, start_ran}
-use borrow.Author.Rules.{rules}
 use Rattle.step_run.proofs.samples.start.Goals as goal
 
 pub run_steps-requires : goal.run_steps-requires

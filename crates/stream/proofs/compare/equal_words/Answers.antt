@@ -1,10 +1,9 @@
 -- `equal_words`: before turn i the first i words are equal. Assumes nothing.
 use mathlib.Core.Path.{◌≡◌, sym, ap, ◌∙◌}
-use Prim.Native.Nat.{◌-◌, ◌≤◌}
+use Prim.Native.Nat.{◌-◌}
 use native.Mathlib.Omega.{arith}
 use Rattle.stream.specs.Compare.{first_of, words_differ}
 use Rattle.stream.specs.CompareLaws.{first_start, words_stop, words_next}
-use borrow.Author.Rules.{rules}
 use Rattle.stream.proofs.compare.equal_words.Goals as goal
 
 pub loop-i-init : goal.loop-i-init

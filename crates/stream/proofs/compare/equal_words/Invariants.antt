@@ -1,9 +1,6 @@
-use mathlib.Core.Path.{◌≡◌, sym, ap, ◌∙◌}
+use mathlib.Core.Path.{◌≡◌}
 use Prim.Native.Nat.{◌-◌, ◌≤◌}
-use native.Mathlib.Omega.{arith}
 use Rattle.stream.specs.Compare.{first_of, words_differ}
-use Rattle.stream.specs.CompareLaws.{first_start, words_stop, words_next}
-use borrow.Author.Rules.{rules}
 use Rattle.stream.proofs.compare.equal_words.Given as goal
 
 abbrev pub invariant-loop-i : goal.invariant-loop-i

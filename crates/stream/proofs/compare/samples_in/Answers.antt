@@ -1,6 +1,5 @@
 -- `samples_in`. Assumes nothing.
 use Rattle.stream.specs.CompareLaws.{samples_none, samples_some}
-use borrow.Author.Rules.{rules}
 use Rattle.stream.proofs.compare.samples_in.Goals as goal
 
 pub returns-then-blocks-eq0 : goal.returns-then-blocks-eq0

@@ -1,6 +1,5 @@
 -- `word_or`. Assumes nothing.
 use Rattle.stream.specs.CompareLaws.{word_in, word_past}
-use borrow.Author.Rules.{rules}
 use Rattle.stream.proofs.compare.word_or.Goals as goal
 
 pub returns-then-place-lt124 : goal.returns-then-place-lt124

@@ -1,6 +1,5 @@
 -- `first_kind` reads the block only where it is the first. Assumes nothing.
 use Rattle.stream.specs.Ways.{kind_new, kind_kept}
-use borrow.Author.Rules.{rules}
 use Rattle.stream.proofs.last.first_kind.Goals as goal
 
 pub returns-then-framed-eq0 : goal.returns-then-framed-eq0

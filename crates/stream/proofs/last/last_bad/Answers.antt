@@ -1,7 +1,6 @@
 -- `last_bad` asks its tests in order. Assumes nothing.
 use mathlib.Core.Path.{sym, ◌∙◌}
 use Rattle.stream.specs.Ways.{bad_low, bad_high, bad_kind, bad_number, bad_used, bad_rest}
-use borrow.Author.Rules.{rules}
 use Rattle.stream.proofs.last.last_bad.Goals as goal
 
 pub returns-then-kind-low : goal.returns-then-kind-low

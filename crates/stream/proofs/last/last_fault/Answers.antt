@@ -1,7 +1,6 @@
 -- `last_fault` looks at the check before the rest of the frame. Assumes nothing.
 use mathlib.Core.Path.{sym, ◌∙◌}
 use Rattle.stream.specs.Ways.{own_check, own_bad, own_none}
-use borrow.Author.Rules.{rules}
 use Rattle.stream.proofs.last.last_fault.Goals as goal
 
 pub returns-then-block_sum-ne4294967295 : goal.returns-then-block_sum-ne4294967295

@@ -1,7 +1,6 @@
 -- `next_fault` keeps a fault, then looks at the block before, then at the block. Assumes nothing.
 use mathlib.Core.Path.{sym, ◌∙◌}
 use Rattle.stream.specs.Ways.{fault_kept, fault_before, fault_own}
-use borrow.Author.Rules.{rules}
 use Rattle.stream.proofs.last.next_fault.Goals as goal
 
 pub returns-then-framed-ne0 : goal.returns-then-framed-ne0
