@@ -9,7 +9,6 @@ pub mod Steps
 pub mod Unchanged
 pub mod Agree
 pub mod Marks
-pub mod Filled
 pub mod Calls
 pub mod Checked
 pub mod CheckedLaws

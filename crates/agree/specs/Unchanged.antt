@@ -12,7 +12,7 @@ use Rattle.kernel.specs.Instructions.{instruction_at}
 use Rattle.memory.specs.Signals.{Given}
 use Rattle.machine.specs.Machine.{Machine, Program, act, act_words, execute_words, execute, counted, steps_to}
 use Rattle.machine.specs.Ready.{Lengths}
-use Rattle.machine.specs.StepLaws.{act_kept}
+use Rattle.machine.proofs.StepLaws.{act_kept}
 
 -- the registers keep their number
 result_long : (r : List ℕ) (w : InstructionWords) → length (execute_words r w) ≡ length r

@@ -27,7 +27,6 @@ use Rattle.compile.specs.Call.{Tables, Done, too_short, zero_past, compile_judge
 use Rattle.compile.specs.Draft.{usable}
 use Rattle.compile.specs.Gives.{call_accepts}
 use Rattle.compile.specs.Bounds.{Fits, compile_bounds, Room, room, SameLengths, call_lengths}
-use Rattle.compiled.specs.CompilePasses.{Agree, compile_passes_in}
 
 -- ---- words in front of zeros are read as they are
 
@@ -92,7 +91,7 @@ pub record CheckRoom (b : Block) (k : Kernel) (t : Check.Tables) : Type 0 where
   pub work : work_needed (expanded_length b) (state_count b) (delay_count b) k ≤ length t.work
 
 -- a call of check on a valid block, with tables that are long enough, answers what the walk does
-check_walks : (b : Block) (mask : ℕ) (k : Kernel) (steps instructions : List ℕ) (t : Check.Tables) → validation b ≡ accepted tt → CheckRoom b k t
+pub check_walks : (b : Block) (mask : ℕ) (k : Kernel) (steps instructions : List ℕ) (t : Check.Tables) → validation b ≡ accepted tt → CheckRoom b k t
     → 2 * (k.control + k.sample) ≤ length steps → 2 * k.instructions ≤ length instructions
     → (check_call b mask k steps instructions t).answer ≡ walk_answer (listing_of b mask k steps instructions)
 unfolding check_call check_judged Check.shorter
@@ -105,29 +104,3 @@ abbrev pub CheckAccepts : Block → ℕ → Tables → Kernel → Type 0
 CheckAccepts b mask t k =
     (lent : Check.Tables) → CheckRoom b k lent
     → (check_call b mask k (compile_call b mask t).tables.steps (compile_call b mask t).tables.instructions lent).answer ≡ accepted tt
-
--- WHERE COMPILE ACCEPTS, CHECK ACCEPTS
-pub compiled_checks : (b : Block) (mask : ℕ) (t : Tables) (done : Done) → (compile_call b mask t).answer ≡ accepted done → CheckAccepts b mask t done.kernel
-compiled_checks b mask t done e lent q =
-    let a = call_accepted b mask t done e in
-    let c : Compiled = a.compiled in
-    let v : Valid b = valid b a.valid in
-    let f : Fits b mask c = compile_bounds b v mask c a.gives in
-    let lengths : SameLengths t (compile_call b mask t).tables = call_lengths b mask t in
-    let agree : Agree c (zero_past c.steps t.steps) (zero_past c.instructions t.instructions) =
-    record {
-      same_steps = λ i l. steps_in_front c.steps (length t.steps - length c.steps) (c.kernel.control + c.kernel.sample) i f.step_table l;
-      same_instructions =
-          λ i l. instructions_in_front c.instructions (length t.instructions - length c.instructions) c.kernel.instructions i
-          f.instruction_table l;
-    } in
-    check_walks b mask done.kernel _ _ lent a.valid q
-    (rw a.kernel (omega (arith, lengths.steps, a.room.steps, f.steps)))
-    (rw a.kernel (omega (arith, lengths.instructions, a.room.instructions, f.steps, f.instructions)))
-    ∙ rw (a.kernel, a.steps, a.instructions)
-    (compile_passes_in b v mask c a.gives (zero_past c.steps t.steps) (zero_past c.instructions t.instructions) agree)
-
--- A VALID BLOCK, a mask of three usable registers or more, tables that are long enough: compile accepts, and check accepts what it left
-pub valid_checks : (b : Block) (mask : ℕ) (t : Tables) → validation b ≡ accepted tt → too_short b t ≡ false → 3 ≤ length (usable mask)
-    → (done : Done) × ((compile_call b mask t).answer ≡ accepted done) × CheckAccepts b mask t done.kernel
-valid_checks b mask t v room h = let (done, e) = call_accepts b mask t v room h in (done, e, compiled_checks b mask t done e)

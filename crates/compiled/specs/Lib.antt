@@ -13,26 +13,19 @@ pub mod Writes
 pub mod Finds
 pub mod Codes
 pub mod Meanings
-pub mod DraftWalks
--- what goes through the walk, as words in two tables, passes the checker
+-- what goes through the walk, as words in two tables, passes the checker: proofs/Walked, proofs/DraftWalks, proofs/CompilePasses
 pub mod Operations
 pub mod Went
 pub mod Stands
 pub mod Passes
 pub mod SamplePasses
 pub mod ControlPasses
-pub mod Left
-pub mod Walked
--- THE THEOREMS: `compile_passes`, `compile_meets`, `compiled_checks`, `valid_checks`
-pub mod CompilePasses
+-- THE STATEMENTS, whose theorems stand in proofs/: what check accepts of what compile leaves
 pub mod CompiledChecks
--- with `agree`: `compiled_runs`, `compiled_calls`
-pub mod CompiledRuns
--- answer 14 exactly: `take_locked`, `run_locked`, `locked_exactly`, `call_locked`; with three usable registers never: `three_never_locked`
+-- answer 14 exactly: in which state every usable register is locked
 pub mod Locked
 pub mod LockedRun
-pub mod CallLocked
--- all of it as one promise of a call: `promised`
+-- all of it as one promise of a call
 pub mod Promised
 -- the starred kernels of document 01
 pub mod Starred

@@ -10,9 +10,7 @@ use Rattle.step_run.specs.Run as Step
 use Rattle.checker.specs.Check as Check
 use Rattle.compile.specs.Draft.{usable}
 use Rattle.compile.specs.Call.{Done, Tables, Outcome, compile_call}
-use Rattle.compiled.specs.CompiledChecks.{CheckRoom, compiled_checks}
-use Rattle.compiled.specs.CompiledRuns.{compiled_calls}
-use Rattle.compiled.specs.CallLocked.{three_never_locked}
+use Rattle.compiled.specs.CompiledChecks.{CheckRoom}
 
 -- what a call for this block and mask answers and leaves
 pub record Promised (b : Block) (mask : ℕ) (o : Outcome) : Type 0 where
@@ -26,16 +24,3 @@ pub record Promised (b : Block) (mask : ℕ) (o : Outcome) : Type 0 where
       → (Step.run_call b (Step.code_of done.kernel o.tables.steps o.tables.instructions) budget s u).answer ≡ accepted d
       → (Step.run_call b (Step.code_of done.kernel o.tables.steps o.tables.instructions) budget s u).tables.rendered
       ≡ samples_to (graph_of b) b.header.network s u.rendered d.samples
-
--- EVERY CALL KEEPS IT
-pub promised : (b : Block) (mask : ℕ) (t : Tables) → Promised b mask (compile_call b mask t)
-promised b mask t =
-    record {
-      given = three_never_locked b mask t;
-      passes = λ done e. compiled_checks b mask t done e;
-      runs = λ done e. compiled_calls b mask t done e;
-    }
-
--- so does what is that call's outcome
-pub kept : (b : Block) (mask : ℕ) (t : Tables) (o : Outcome) → o ≡ compile_call b mask t → (o ≡ compile_call b mask t) × Promised b mask o
-kept b mask t o e = (e, rw e (promised b mask t))

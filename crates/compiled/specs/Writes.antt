@@ -122,7 +122,7 @@ module _ (code index : ℕ) where
       go false y g h = refl
 
   module _ (c : ℕ) (law : (k n : ℕ) → weight (record { code = c; index = k; value = n }) ≡ one code index c k) where
-    from_other : (c ≡ code → ⊥) → (us : List ℕ) (k : ℕ) → total All (writes_from c k us) ≡ 0
+    pub from_other : (c ≡ code → ⊥) → (us : List ℕ) (k : ℕ) → total All (writes_from c k us) ≡ 0
     from_other f [] k = refl
     from_other f (zero ∷ us) k = from_other f us (suc k)
     from_other f (suc n ∷ us) k = omega (arith, law k n, one_miss c k (λ p q. f p), from_other f us (suc k))
@@ -132,40 +132,20 @@ module _ (code index : ℕ) where
     from_below (zero ∷ us) k h = from_below us (suc k) (omega arith)
     from_below (suc n ∷ us) k h = omega (arith, law k n, one_miss c k (λ p q. omega arith), from_below us (suc k) (omega arith))
 
-    from_here : c ≡ code → (us : List ℕ) (k j : ℕ) → index ≡ k + j → total All (writes_from c k us) ≡ asked_once (get_or us j 0)
+    pub from_here : c ≡ code → (us : List ℕ) (k j : ℕ) → index ≡ k + j → total All (writes_from c k us) ≡ asked_once (get_or us j 0)
     from_here p [] k j e = refl
     from_here p (zero ∷ us) k zero e = from_below us (suc k) (omega arith)
     from_here p (zero ∷ us) k (suc j) e = from_here p us (suc k) j (omega arith)
     from_here p (suc n ∷ us) k zero e = omega (arith, law k n, one_hit c k p (omega arith), from_below us (suc k) (omega arith))
     from_here p (suc n ∷ us) k (suc j) e = omega (arith, law k n, one_miss c k (λ p q. omega arith), from_here p us (suc k) j (omega arith))
 
-  state_law : (k n : ℕ) → weight (record { code = 10; index = k; value = n }) ≡ one code index 10 k
+  pub state_law : (k n : ℕ) → weight (record { code = 10; index = k; value = n }) ≡ one code index 10 k
   unfolding store_action
   state_law k n = refl
 
-  delay_law : (k n : ℕ) → weight (record { code = 11; index = k; value = n }) ≡ one code index 11 k
+  pub delay_law : (k n : ℕ) → weight (record { code = 11; index = k; value = n }) ≡ one code index 11 k
   unfolding store_action
   delay_law k n = refl
-
-pub states_once : (g : Flow) (i : ℕ) → total 10 i (λ w. true) (writes g) ≡ asked_once (get_or g.states i 0)
-unfolding writes
-states_once g i =
-    omega (
-      arith,
-      total_append 10 i (writes_from 10 0 g.states) (writes_from 11 0 g.delays),
-      from_here 10 i 10 (state_law 10 i) refl g.states 0 i (omega arith),
-      from_other 10 i 11 (delay_law 10 i) (λ (z : ◌≡◌ {A = ℕ} 11 10). omega arith) g.delays 0,
-    )
-
-pub delays_once : (g : Flow) (i : ℕ) → total 11 i (λ w. true) (writes g) ≡ asked_once (get_or g.delays i 0)
-unfolding writes
-delays_once g i =
-    omega (
-      arith,
-      total_append 11 i (writes_from 10 0 g.states) (writes_from 11 0 g.delays),
-      from_here 11 i 11 (delay_law 11 i) refl g.delays 0 i (omega arith),
-      from_other 11 i 10 (state_law 11 i) (λ (z : ◌≡◌ {A = ℕ} 10 11). omega arith) g.states 0,
-    )
 
 pub outputs_none : (g : Flow) → total 12 0 (λ w. true) (writes g) ≡ 0
 unfolding writes

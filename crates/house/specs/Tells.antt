@@ -1,7 +1,7 @@
 -- The answers in the document's numbers fix the results of the four calls: no second result meets a promise. Assumes nothing.
 use Rattle.std.specs.Prelude.{◌≡◌, ℕ}
 use Rattle.std.proofs.Common.{ap, arith}
-use Rattle.answers.specs.Numbers.{tells_refusal}
+use Rattle.answers.proofs.Numbers.{tells_refusal}
 use Rattle.house.specs.declared.BlockRead.{BlockRead}
 use Rattle.house.specs.declared.BlockRead.TheVariants as B
 use Rattle.house.specs.declared.RenderingRead.{RenderingRead}

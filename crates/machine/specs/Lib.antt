@@ -4,7 +4,3 @@ pub mod Machine
 pub mod Registers
 -- what the functions of a phase require
 pub mod Ready
--- laws of steps
-pub mod StepLaws
--- each step's arm
-pub mod StepArms

@@ -16,7 +16,7 @@ use Rattle.machine.specs.Machine.{Machine, machine, steps_to, with_output}
 use Rattle.step_run.specs.Run.{Setup, program_of, no_output, cleared, control_done, sample_done, Running, running, emit, samples_to, run_for, Tables, tables, tables_of}
 use Rattle.machine.specs.Ready.{Ready, Listed, Lengths, lengths_of}
 use Rattle.step_run.specs.Ready.{Playable}
-use Rattle.machine.specs.StepLaws.{steps_executed, steps_kept, steps_fit, ready_kept}
+use Rattle.machine.proofs.StepLaws.{steps_executed, steps_kept, steps_fit, ready_kept}
 
 -- ---- between samples the output word is of no account: the next sample begins without one
 abbrev pub silent : Machine → ℕ → Machine

@@ -1,5 +1,5 @@
 -- `compute`: the words of the table are an instruction, which is executed. Assumes nothing.
-use Rattle.machine.specs.StepArms.{compute_formed}
+use Rattle.machine.proofs.StepArms.{compute_formed}
 use Rattle.machine.proofs.registers.compute.Goals as goal
 
 pub returns : goal.returns

@@ -3,7 +3,7 @@ use mathlib.Core.Path.{◌∙◌}
 use native.Mathlib.Omega.{arith}
 use lib.ListN.{length}
 use Rattle.kernel.specs.Lists.{sizes}
-use Rattle.machine.specs.StepArms.{inside_parameter, inside_state, inside_delay, inside_control}
+use Rattle.machine.proofs.StepArms.{inside_parameter, inside_state, inside_delay, inside_control}
 use Rattle.machine.proofs.steps.loaded.Goals as goal
 
 pub bounds-settings-place : goal.bounds-settings-place

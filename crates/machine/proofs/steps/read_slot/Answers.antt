@@ -1,5 +1,5 @@
 -- `read_slot`: a word of the part is the word of the table. Assumes nothing.
-use Rattle.machine.specs.StepArms.{part_length, slot_at}
+use Rattle.machine.proofs.StepArms.{part_length, slot_at}
 use Rattle.machine.proofs.steps.read_slot.Goals as goal
 
 pub bounds-words-place : goal.bounds-words-place

@@ -5,7 +5,7 @@ use native.Mathlib.Omega.{arith}
 use Rattle.memory.specs.Lines.{memories}
 use Rattle.machine.specs.Machine.{machine}
 use Rattle.machine.specs.Ready.{Lengths}
-use Rattle.machine.specs.StepLaws.{going_start, going_ready, going_may, going_turn}
+use Rattle.machine.proofs.StepLaws.{going_start, going_ready, going_may, going_turn}
 use Rattle.machine.proofs.steps.run_steps.Goals as goal
 
 pub loop-i-init : goal.loop-i-init

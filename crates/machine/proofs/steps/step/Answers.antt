@@ -1,5 +1,5 @@
 -- `step`: each arm leaves the machine that the definition gives for its step (specs/StepArms). Assumes nothing.
-use Rattle.machine.specs.StepArms.{decoded, allowed, load_inside, compute_inside, compute_words, spill_inside, reload_inside, control_inside, state_inside, delay_inside, arm_load, arm_compute, arm_spill, arm_reload, arm_state, arm_delay, arm_output, arm_control}
+use Rattle.machine.proofs.StepArms.{decoded, allowed, load_inside, compute_inside, compute_words, spill_inside, reload_inside, control_inside, state_inside, delay_inside, arm_load, arm_compute, arm_spill, arm_reload, arm_state, arm_delay, arm_output, arm_control}
 use Rattle.machine.proofs.steps.step.Goals as goal
 
 pub loaded-value-requires : goal.loaded-value-requires

@@ -2,7 +2,7 @@
 use mathlib.Core.Path.{sym}
 use native.Mathlib.Omega.{arith}
 use lib.Seq.{length-take-le}
-use Rattle.machine.specs.StepArms.{slot_in, stored_control, stored_spills}
+use Rattle.machine.proofs.StepArms.{slot_in, stored_control, stored_spills}
 use Rattle.machine.proofs.steps.store_slot.Goals as goal
 
 pub slice_bounds-store-end-in-Control : goal.slice_bounds-store-end-in-Control

@@ -22,7 +22,7 @@ use Rattle.kernel.specs.Named.{step_formed, instruction_formed}
 use Rattle.memory.specs.Lines.{Memories, memories, store_delay, store_state}
 use Rattle.memory.specs.Signals.{Given}
 use Rattle.machine.specs.Machine.{machine, Program, register, execute, execute_words, loaded, act_words}
-use Rattle.machine.specs.StepLaws.{may_allowed, may_inside, may_computes}
+use Rattle.machine.proofs.StepLaws.{may_allowed, may_inside, may_computes}
 use Rattle.machine.specs.Ready.{Slotted, MayRun, slot_table, slot_count, Slots, slots, slot_stored}
 
 -- ---- the slots of the phase that a step is allowed in

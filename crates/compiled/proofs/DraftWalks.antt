@@ -27,8 +27,9 @@ use Rattle.compiled.specs.TrackedTasks.{WriteCode, to_state, to_delay}
 use Rattle.compiled.specs.TrackedPhases.{WriteOk, Full, ControlGoes, SampleGoes, control_goes, sample_goes}
 use Rattle.compiled.specs.Meanings.{rules, class_word, class, sample_meaning, sample_loads, control_meaning, control_loads}
 use Rattle.compiled.specs.Stores.{post_all, stores, task_stores, Ended, run_ended}
-use Rattle.compiled.specs.Writes.{total, schedule_total, states_once, delays_once, outputs_none}
-use Rattle.compiled.specs.Left.{Left}
+use Rattle.compiled.specs.Writes.{total, schedule_total, outputs_none}
+use Rattle.compiled.proofs.Writes.{states_once, delays_once}
+use Rattle.compiled.proofs.Left.{Left}
 
 -- each write stores the class that its update asks for
 writes_asked : (R : Rules) (g : Graph) (c : ℕ) (all : List ℕ) → WriteCode c → (c ≡ 12 → ⊥) → ((i : ℕ) → R.asked_class c i ≡ class_word g (get_or all i 0))

@@ -16,7 +16,8 @@ use Rattle.compile.specs.Words.{Compiled}
 use Rattle.compile.specs.Compile.{compile}
 use Rattle.compile.specs.Gives.{compile_gives}
 use Rattle.compile.specs.Call.{Tables, Done, compile_judged, compiled_answer, compile_answer, compile_call}
-use Rattle.compiled.specs.LockedRun.{FlowLocked, locked_exactly}
+use Rattle.compiled.specs.LockedRun.{FlowLocked}
+use Rattle.compiled.proofs.LockedRun.{locked_exactly}
 
 -- ---- no answer before it is 14
 

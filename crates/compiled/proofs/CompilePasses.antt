@@ -38,8 +38,8 @@ use Rattle.compiled.specs.Meanings.{rules}
 use Rattle.compiled.specs.Went.{AllSmall, actions_small, okay_start}
 use Rattle.compiled.specs.Stands.{Stands, stands_first, stands_second, words_stand}
 use Rattle.compiled.specs.Passes.{Sound, list}
-use Rattle.compiled.specs.Walked.{control_walk, sample_walk}
-use Rattle.compiled.specs.DraftWalks.{Walks, left_start, draft_walks}
+use Rattle.compiled.proofs.Walked.{control_walk, sample_walk}
+use Rattle.compiled.proofs.DraftWalks.{Walks, left_start, draft_walks}
 
 -- ---- generic: where each record is accepted, all are
 in_order_all : (answer : ℕ → Answer Unit) (n : ℕ) → ((i : ℕ) → i < n → answer i ≡ accepted tt) → in_order answer n ≡ accepted tt

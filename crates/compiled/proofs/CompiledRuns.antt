@@ -20,8 +20,9 @@ use Rattle.allocate.specs.State.{allocated}
 use Rattle.compile.specs.Words.{Compiled}
 use Rattle.compile.specs.Compile.{compile}
 use Rattle.compile.specs.Call.{Done, Tables, compile_call}
-use Rattle.compiled.specs.CompilePasses.{compile_passes}
-use Rattle.compiled.specs.CompiledChecks.{CheckRoom, compiled_checks}
+use Rattle.compiled.proofs.CompilePasses.{compile_passes}
+use Rattle.compiled.specs.CompiledChecks.{CheckRoom}
+use Rattle.compiled.proofs.CompiledChecks.{compiled_checks}
 
 -- a compiled kernel with its tables
 abbrev pub code_of : Compiled → Step.Code
