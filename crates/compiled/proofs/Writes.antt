@@ -13,7 +13,7 @@ use Rattle.plan.specs.Origins.{Origin}
 use Rattle.plan.specs.Schedule.{Write, writes_from, writes, waits, tasks_of, schedule_from}
 use Rattle.allocate.specs.Actions.{store_action}
 use Rattle.compiled.specs.Stores.{one, action_stores, task_stores, task_stores_append}
-use Rattle.compiled.specs.Writes.{asked_once, total, from_here, from_other, state_law, delay_law}
+use Rattle.compiled.specs.Writes.{asked_once, total, total_append, from_here, from_other, state_law, delay_law}
 
 pub states_once : (g : Flow) (i : ℕ) → total 10 i (λ w. true) (writes g) ≡ asked_once (get_or g.states i 0)
 unfolding writes

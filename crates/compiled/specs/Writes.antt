@@ -106,7 +106,7 @@ module _ (code index : ℕ) where
           total_not q ws,
         )
 
-  total_append : (xs ys : List Write) → total All (xs ++ ys) ≡ total All xs + total All ys
+  pub total_append : (xs ys : List Write) → total All (xs ++ ys) ≡ total All xs + total All ys
   total_append [] ys = omega arith
   total_append (x ∷ xs) ys = omega (arith, total_append xs ys)
 
