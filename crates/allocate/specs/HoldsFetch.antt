@@ -106,7 +106,7 @@ module _ (frame : Frame) (nodes : List ℕ) (e : Setting) (table program : List 
   pub brought_holds : (d : Desk) (s : State) → H d s → (from : Access) (origin : Origin) → origin_of from ≡ origin → T (has_origin origin) → Loads from
       → (register : ℕ) → register < 16 → H (brought from register d) (bring_from origin register s)
   unfolding brought bring_from origin_of load_action
-  brought_holds d s h from origin q has loads register small = rw (← q) (go (eqb c 0) (eqb c 7) refl refl (rw (← q) at has))
+  brought_holds d s h from _ q has loads register small = rw (← q) (go (eqb c 0) (eqb c 7) refl refl (rw (← q) at has))
     where
       c : ℕ
       c = from.code

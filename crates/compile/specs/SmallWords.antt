@@ -86,10 +86,10 @@ module _ (margin limit : ℕ) (some : 0 < margin) (any : 0 < limit) where
   fine_append (x ∷ xs) ys a c = (a.0, fine_append xs ys a.1 c)
 
   control_tasks_lem : (slots cm : List ℕ) → ((n j : ℕ) → get_or slots n 0 ≡ suc j → j < margin) → FineTasks margin limit some any (control_tasks slots cm)
-  control_tasks_lem slots [] f = tt
-  control_tasks_lem slots (n ∷ cm) f = fine_append (control_task n (get_or slots n 0)) (control_tasks slots cm) (go (get_or slots n 0) refl) (control_tasks_lem slots cm f)
+  control_tasks_lem numbers [] f = tt
+  control_tasks_lem numbers (n ∷ cm) f = fine_append (control_task n (get_or numbers n 0)) (control_tasks numbers cm) (go (get_or numbers n 0) refl) (control_tasks_lem numbers cm f)
     where
-      go : (k : ℕ) → get_or slots n 0 ≡ k → FineTasks margin limit some any (control_task n k)
+      go : (k : ℕ) → get_or numbers n 0 ≡ k → FineTasks margin limit some any (control_task n k)
       go zero q = (tt, tt)
       go (suc j) q = (tt, (f n j q, tt))
 
