@@ -1,7 +1,7 @@
 #!/usr/bin/env python3
 """Brings the repository's own definitions and lemmas to the spelling of today's Rattle: snake case, types and facts in camel case.
 
-usage: python3 tools/respell_names.py        once, at the top of the repository, right after the kit's port.py
+usage: python3 tools/respell_names.py        once, at the top of the repository, right after the kit's port.py; a second run would take a lemma for its definition
 
 A definition `expandedLength` becomes `expanded_length`, a lemma `nan-above` becomes `nan_above`. A lemma that would fall together with the definition
 that it speaks of gets `_lem`. What begins with a capital keeps its spelling. respelled_names.json has the table: 'all' holds in every file, 'in' in the
@@ -49,6 +49,8 @@ def of_line(line, names, path):
 
 
 def main():
+    if os.path.exists(os.path.join(TOP, "docs", "PORT.md")):
+        return "it has run here: docs/PORT.md says when"
     with open(os.path.join(HERE, "respelled_names.json"), encoding="utf-8") as it:
         table = json.load(it)
     lemmas = {k: v for k, v in table["all"].items() if v.endswith("_lem") and not k.endswith("-lem")}

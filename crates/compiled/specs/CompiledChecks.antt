@@ -1,5 +1,5 @@
 -- OVER THE CALLS: where compile accepts, check accepts the kernel and the two tables as compile left them, for the same block and mask, with any tables of its own
--- that are long enough. Assumes nothing.
+-- that are long enough: `CheckAccepts`, whose theorems are in proofs/CompiledChecks. Assumes nothing.
 use Rattle.std.specs.Prelude.{◌≡◌, refl, false, List, [], ◌++◌, ℕ, ◌+◌, ◌-◌, ◌*◌, ◌≤◌, ◌<◌, length, get_or}
 use Rattle.std.proofs.Common.{sym, ap, ◌∙◌, arith, le-ltb}
 use Rattle.std.proofs.Math.ListN.{get_or-append}

@@ -1,5 +1,5 @@
--- Answer 14 EXACTLY: "an operation needs a register and every usable one is locked". `take_locked` says it of the taking of one register, LockedRun of a run.
--- Assumes nothing.
+-- Answer 14 EXACTLY: "an operation needs a register and every usable one is locked". proofs/Locked has it of the taking of one register, proofs/LockedRun of a
+-- run. Definitions alone.
 use Rattle.std.specs.Prelude.{◌≡◌, refl, ◌↔◌, Bool, true, false, not, List, [], ◌∷◌, ℕ, zero, suc, T}
 use Rattle.std.proofs.Common.{sym, ◌∙◌, arith}
 use Rattle.plan.specs.Lists.{member, filter, first_of, best, is_none}

@@ -1,5 +1,5 @@
 -- Answer 14 EXACTLY, of a run and of compile: "an operation needs a register and every usable one is locked". Each `..Locked` below says in which state the
--- operations before have left the allocator, which operation asks, and that every usable register is locked then. Assumes nothing.
+-- operations before have left the allocator, which operation asks, and that every usable register is locked then; proofs/LockedRun has the theorems. Definitions alone.
 use Rattle.std.specs.Prelude.{◌≡◌, refl, ◌↔◌, ◌⊎◌, Bool, true, false, not, ◌&&◌, List, [], ◌∷◌, ◌++◌, ℕ, zero, suc, T}
 use Rattle.std.proofs.Common.{inl, inr}
 use denote.Floats.{is_true}

@@ -1,4 +1,4 @@
--- DEMAND 3, LAST SENTENCE, as one promise of a call of compile: `Promised`, and that every call keeps it: `promised`. Assumes nothing.
+-- DEMAND 3, LAST SENTENCE, as one promise of a call of compile: `Promised`. That every call keeps it is in proofs/Promised. Definitions alone.
 use Rattle.std.specs.Prelude.{◌≡◌, [], ℕ, ◌≤◌, length}
 use Rattle.answers.specs.Numbers.{accepted, refused}
 use Rattle.block.specs.Block.{Block}

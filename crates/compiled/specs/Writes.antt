@@ -1,4 +1,4 @@
--- Every state and delay with an update is written exactly once by the schedule, no other, and no output before the last op. Assumes nothing.
+-- Every state and delay with an update is written exactly once by the schedule, no other (proofs/Writes has the theorems), and no output before the last op. Assumes nothing.
 use Rattle.std.specs.Prelude.{◌≡◌, true, false, cond, ◌&&◌, ◌||◌, ℕ, zero, suc, ◌+◌, ◌<◌, get_or, T, eqb}
 use Rattle.std.proofs.Math.Path.{refl, sym}
 use Rattle.std.proofs.Math.Bool.{Bool, not}

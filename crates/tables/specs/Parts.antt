@@ -1,5 +1,5 @@
 -- Regions of one table, and a region lent as `&mut table[a..e]` that comes back. Where it comes back a proof sees `put_mid a (e - a) table ys` and `mid_of`
--- of borrow.Rule.Slice.PartMut, which has `put_same`, `take_put` and `drop-put` too; `mid_of` is `part`. Assumes nothing.
+-- of borrow.Rule.Slice.PartMut, which has `put_same`, `take_put` and `drop_put` too; `mid_of` is `part`. Assumes nothing.
 use Rattle.std.specs.Prelude.{◌≡◌, refl, ◌⊎◌, List, [], ◌∷◌, ◌++◌, ℕ, ◌+◌, ◌-◌, ◌≤◌, ◌<◌, take, get_or, set}
 use Rattle.std.proofs.Common.{sym, ◌∙◌, inl, inr, append_assoc, add-one, length-append, length-take, length-drop, take-append-drop, get_or-drop, get_or-take, drop-set-lt, length-take-le, take-suc-set, take-add, drop_at}
 use Rattle.std.proofs.Math.Path.{ap}

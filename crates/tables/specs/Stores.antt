@@ -40,7 +40,7 @@ set_says l i v j x e = go (eqb j i) refl
 abbrev pub Each : (ℕ → Type 0) → List ℕ → Type 0
 Each P l = (i : ℕ) → P (get_or l i 0)
 
--- a word of 32 bits. Of a lent `&[u32]` that is read, `λ i. (c.shared-slice-known.given i).fits` is `Each Word`
+-- a word of 32 bits. Of a lent `&[u32]` x that is read, `c.type_inv.x` is `Each Word`
 abbrev pub Word : ℕ → Type 0
 Word w = w < 4294967296
 

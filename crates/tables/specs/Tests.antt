@@ -1,5 +1,5 @@
 -- Tests and cases: from a test's value to a fact and back, a conjunction that stays shut, and laws of `cond`. Comparisons of numbers are in
--- borrow.Author.Tests (`ltb-true`, `lt-ltb`, .., `not-true`, `not-false`); from `b ≡ true` to `T b` and back are denote.Floats.{passes, is-true}. Assumes
+-- borrow.Author.Tests (`ltb-true`, `lt-ltb`, .., `not-true`, `not-false`); from `b ≡ true` to `T b` and back are denote.Floats.{passes, is_true}. Assumes
 -- nothing.
 use Rattle.std.specs.Prelude.{◌≡◌, refl, ◌⊎◌, Bool, true, false, cond, not, ◌&&◌, ◌||◌, ℕ, T, eqb}
 use Rattle.std.proofs.Common.{sym, ◌∙◌, inl, inr, true≢false, eq-eqb, ne_eqb, eqb-true}
