@@ -1,11 +1,11 @@
 -- The number and the values of an answer tell its case: `tells_refusal`, `tells`. Assumes nothing.
-use Rattle.std.specs.Prelude.{◌≡◌, refl, Bool, true, false, List, [], ◌∷◌, ℕ, get_or, eqb}
+use Rattle.std.specs.Prelude.{◌≡◌, refl, Bool, true, false, ℕ, eqb}
 use Rattle.std.proofs.Common.{sym, ap, ◌∙◌, arith}
 use Rattle.answers.specs.declared.Refusal.{Refusal}
 use Rattle.answers.specs.declared.Refusal.TheVariants as R
 use Rattle.answers.specs.declared.Verdict.{Verdict}
 use Rattle.answers.specs.declared.Verdict.TheVariants.{Valid, Refused}
-use Rattle.answers.specs.Numbers.{number_of, values_of, first_value, Answer, accepted, refused, refusal, answer_of}
+use Rattle.answers.specs.Numbers.{number_of, values_of, first_value, answer_of}
 
 -- ---- the number and the values tell the case, so a promise on `answer_of` of a result fixes the result
 abbrev pick : Bool → Refusal → Refusal → Refusal

@@ -1,6 +1,5 @@
 -- Document 01, "Numbered answers": the number and the values of every case of `Refusal`. Definitions alone; proofs/Numbers.antt has that they tell the cases apart.
-use Rattle.std.specs.Prelude.{◌≡◌, refl, Bool, true, false, List, [], ◌∷◌, ℕ, get_or, eqb}
-use Rattle.std.proofs.Common.{sym, ap, ◌∙◌, arith}
+use Rattle.std.specs.Prelude.{List, [], ◌∷◌, ℕ, get_or}
 use Rattle.answers.specs.declared.Refusal.{Refusal}
 use Rattle.answers.specs.declared.Refusal.TheVariants as R
 use Rattle.answers.specs.declared.Verdict.{Verdict}

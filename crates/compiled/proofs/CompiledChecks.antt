@@ -1,33 +1,17 @@
 -- What compile gives passes the checker: `compiled_checks`, `valid_checks`. Assumes nothing.
-use Rattle.std.specs.Prelude.{◌≡◌, refl, false, List, [], ◌++◌, ℕ, ◌+◌, ◌-◌, ◌*◌, ◌≤◌, ◌<◌, length, get_or}
-use Rattle.std.proofs.Common.{sym, ap, ◌∙◌, arith, le-ltb}
-use Rattle.std.proofs.Math.ListN.{get_or-append}
-use Rattle.tables.specs.Tests.{or_none}
-use Rattle.tables.specs.Zeros.{zeros}
-use Rattle.answers.specs.Numbers.{Answer, accepted, refused}
-use Rattle.answers.specs.Order.{refuse}
-use Rattle.answers.specs.OrderLaws.{then_accepted, refuse_accepted, then_pass, refuse_off}
-use Rattle.block.specs.Block.{Block, state_count, delay_count}
-use Rattle.block.specs.Validation.{expanded_length, validation}
+use Rattle.std.specs.Prelude.{◌≡◌, false, ℕ, ◌+◌, ◌-◌, ◌≤◌, length}
+use Rattle.std.proofs.Common.{◌∙◌, arith}
+use Rattle.answers.specs.Numbers.{accepted}
+use Rattle.block.specs.Block.{Block}
+use Rattle.block.specs.Validation.{validation}
 use Rattle.block.specs.Valid.{Valid, valid}
-use Rattle.expand.specs.Graph.{graph_of}
-use Rattle.kernel.specs.declared.Kernel.{Kernel}
-use Rattle.kernel.specs.Steps as Steps
-use Rattle.kernel.specs.Instructions as Instructions
-use Rattle.kernel.specs.Steps.{step_at}
-use Rattle.kernel.specs.Instructions.{instruction_at}
-use Rattle.checker.specs.Walk.{walk_answer}
-use Rattle.checker.specs.Check as Check
-use Rattle.checker.specs.Check.{listing_of, work_needed, check_judged, check_call}
-use Rattle.allocate.specs.State.{Allocated, allocated, all_locked}
 use Rattle.compile.specs.Words.{Compiled}
-use Rattle.compile.specs.Compile.{compile}
-use Rattle.compile.specs.Call.{Tables, Done, too_short, zero_past, compile_judged, compiled_answer, compile_answer, tables_after, compile_call}
+use Rattle.compile.specs.Call.{Tables, Done, too_short, zero_past, compile_call}
 use Rattle.compile.specs.Draft.{usable}
 use Rattle.compile.specs.Gives.{call_accepts}
-use Rattle.compile.specs.Bounds.{Fits, compile_bounds, Room, room, SameLengths, call_lengths}
+use Rattle.compile.specs.Bounds.{Fits, compile_bounds, room, SameLengths, call_lengths}
 use Rattle.compiled.proofs.CompilePasses.{Agree, compile_passes_in}
-use Rattle.compiled.specs.CompiledChecks.{Accepted, CheckRoom, CheckAccepts, check_walks, call_accepted, steps_in_front, instructions_in_front}
+use Rattle.compiled.specs.CompiledChecks.{CheckAccepts, check_walks, call_accepted, steps_in_front, instructions_in_front}
 
 -- WHERE COMPILE ACCEPTS, CHECK ACCEPTS
 pub compiled_checks : (b : Block) (mask : ℕ) (t : Tables) (done : Done) → (compile_call b mask t).answer ≡ accepted done → CheckAccepts b mask t done.kernel

@@ -1,12 +1,12 @@
 -- Answer 14 exactly, of a run and of compile: `run_locked`, `locked_exactly`. Assumes nothing.
-use Rattle.std.specs.Prelude.{◌≡◌, refl, ◌↔◌, ◌⊎◌, Bool, true, false, not, ◌&&◌, List, [], ◌∷◌, ◌++◌, ℕ, zero, suc, T}
+use Rattle.std.specs.Prelude.{◌≡◌, refl, ◌↔◌, ◌⊎◌, Bool, true, false, not, ◌&&◌, List, [], ◌∷◌, ◌++◌, ℕ, zero, suc}
 use Rattle.std.proofs.Common.{inl, inr}
 use denote.Floats.{is_true}
 use Rattle.expand.specs.Graph.{Graph}
 use Rattle.plan.specs.Lists.{first_of}
 use Rattle.plan.specs.Nodes.{Flow}
 use Rattle.plan.specs.Origins.{home_of}
-use Rattle.plan.specs.Schedule.{Task, compute_task, keep_task, store_task, task_reads, Plan, plan_of}
+use Rattle.plan.specs.Schedule.{Task, compute_task, keep_task, store_task, task_reads, plan_of}
 use Rattle.plan.specs.Flow.{flow_of}
 use Rattle.allocate.specs.State.{Allocated, allocated, all_locked, and_then, Setting, State, Taken, TakenAll, register_of, is_fresh, begin}
 use Rattle.allocate.specs.Allocator.{take_register, fetch_held, fetch, fetch_all, read_later, result_register, run_compute, run_keep, run_store, preserve_if, preserve, home_code, run_task, allocate_task, reads_of, allocate}
@@ -15,7 +15,7 @@ use Rattle.compile.specs.Words.{compiled_of}
 use Rattle.compile.specs.Compile.{compile}
 use Rattle.compiled.specs.Locked.{EveryLocked}
 use Rattle.compiled.proofs.Locked.{not_locked, take_locked}
-use Rattle.compiled.specs.LockedRun.{OperandLocked, OperandsLocked, ResultLocked, OldValueLocked, TaskLocked, OperationLocked, RunLocked, FlowLocked}
+use Rattle.compiled.specs.LockedRun.{OperandLocked, OperandsLocked, OldValueLocked, TaskLocked, OperationLocked, RunLocked, FlowLocked}
 
 -- refused before, or after
 bind_says : {A B : Type 0} (x : Allocated A) (f : A → Allocated B) → and_then x f ≡ all_locked → (x ≡ all_locked) ⊎ ((a : A) × (x ≡ allocated a) × (f a ≡ all_locked))

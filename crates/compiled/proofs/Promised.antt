@@ -1,16 +1,7 @@
 -- Every call of compile keeps the promise: `promised`, `kept`. Assumes nothing.
-use Rattle.std.specs.Prelude.{◌≡◌, [], ℕ, ◌≤◌, length}
-use Rattle.answers.specs.Numbers.{accepted, refused}
+use Rattle.std.specs.Prelude.{◌≡◌, ℕ}
 use Rattle.block.specs.Block.{Block}
-use Rattle.expand.specs.Graph.{graph_of}
-use Rattle.memory.specs.Signals.{Signals}
-use Rattle.graph_run.specs.Run.{samples_to}
-use Rattle.step_run.specs.declared.Done as Run
-use Rattle.step_run.specs.Run as Step
-use Rattle.checker.specs.Check as Check
-use Rattle.compile.specs.Draft.{usable}
-use Rattle.compile.specs.Call.{Done, Tables, Outcome, compile_call}
-use Rattle.compiled.specs.CompiledChecks.{CheckRoom}
+use Rattle.compile.specs.Call.{Tables, Outcome, compile_call}
 use Rattle.compiled.proofs.CompiledChecks.{compiled_checks}
 use Rattle.compiled.proofs.CompiledRuns.{compiled_calls}
 use Rattle.compiled.proofs.CallLocked.{three_never_locked}

@@ -1,18 +1,9 @@
 -- How often an update's memory is written: once where it is asked for, else never. Assumes nothing.
-use Rattle.std.specs.Prelude.{◌≡◌, true, false, cond, ◌&&◌, ◌||◌, ℕ, zero, suc, ◌+◌, ◌<◌, get_or, T, eqb}
-use Rattle.std.proofs.Math.Path.{refl, sym}
-use Rattle.std.proofs.Math.Bool.{Bool, not}
-use mathlib.Core.List.{List, [], ◌∷◌, ◌++◌}
+use Rattle.std.specs.Prelude.{◌≡◌, true, ℕ, get_or}
+use Rattle.std.proofs.Math.Path.{refl}
 use native.Mathlib.Omega.{arith}
-use Rattle.std.proofs.Common.{eqb→eq}
-use Rattle.std.proofs.Math.Dec.{eqb_refl}
-use denote.Floats.{is_true}
-use Rattle.plan.specs.Lists.{filter, any_of}
-use Rattle.plan.specs.Nodes.{Node, Flow}
-use Rattle.plan.specs.Origins.{Origin}
-use Rattle.plan.specs.Schedule.{Write, writes_from, writes, waits, tasks_of, schedule_from}
-use Rattle.allocate.specs.Actions.{store_action}
-use Rattle.compiled.specs.Stores.{one, action_stores, task_stores, task_stores_append}
+use Rattle.plan.specs.Nodes.{Flow}
+use Rattle.plan.specs.Schedule.{writes_from, writes}
 use Rattle.compiled.specs.Writes.{asked_once, total, total_append, from_here, from_other, state_law, delay_law}
 
 pub states_once : (g : Flow) (i : ℕ) → total 10 i (λ w. true) (writes g) ≡ asked_once (get_or g.states i 0)

@@ -1,6 +1,6 @@
 -- OVER THE CALLS: where compile accepts, check accepts the kernel and the two tables as compile left them, for the same block and mask, with any tables of its own
 -- that are long enough: `CheckAccepts`, whose theorems are in proofs/CompiledChecks. Assumes nothing.
-use Rattle.std.specs.Prelude.{◌≡◌, refl, false, List, [], ◌++◌, ℕ, ◌+◌, ◌-◌, ◌*◌, ◌≤◌, ◌<◌, length, get_or}
+use Rattle.std.specs.Prelude.{◌≡◌, refl, List, [], ◌++◌, ℕ, ◌+◌, ◌*◌, ◌≤◌, ◌<◌, length, get_or}
 use Rattle.std.proofs.Common.{sym, ap, ◌∙◌, arith, le-ltb}
 use Rattle.std.proofs.Math.ListN.{get_or-append}
 use Rattle.tables.specs.Tests.{or_none}
@@ -10,7 +10,6 @@ use Rattle.answers.specs.Order.{refuse}
 use Rattle.answers.specs.OrderLaws.{then_accepted, refuse_accepted, then_pass, refuse_off}
 use Rattle.block.specs.Block.{Block, state_count, delay_count}
 use Rattle.block.specs.Validation.{expanded_length, validation}
-use Rattle.block.specs.Valid.{Valid, valid}
 use Rattle.expand.specs.Graph.{graph_of}
 use Rattle.kernel.specs.declared.Kernel.{Kernel}
 use Rattle.kernel.specs.Steps as Steps
@@ -24,9 +23,7 @@ use Rattle.allocate.specs.State.{Allocated, allocated, all_locked}
 use Rattle.compile.specs.Words.{Compiled}
 use Rattle.compile.specs.Compile.{compile}
 use Rattle.compile.specs.Call.{Tables, Done, too_short, zero_past, compile_judged, compiled_answer, compile_answer, tables_after, compile_call}
-use Rattle.compile.specs.Draft.{usable}
-use Rattle.compile.specs.Gives.{call_accepts}
-use Rattle.compile.specs.Bounds.{Fits, compile_bounds, Room, room, SameLengths, call_lengths}
+use Rattle.compile.specs.Bounds.{Room, room}
 
 -- ---- words in front of zeros are read as they are
 

@@ -1,19 +1,13 @@
 -- Answer 14 EXACTLY, of a run and of compile: "an operation needs a register and every usable one is locked". Each `..Locked` below says in which state the
 -- operations before have left the allocator, which operation asks, and that every usable register is locked then; proofs/LockedRun has the theorems. Definitions alone.
-use Rattle.std.specs.Prelude.{◌≡◌, refl, ◌↔◌, ◌⊎◌, Bool, true, false, not, ◌&&◌, List, [], ◌∷◌, ◌++◌, ℕ, zero, suc, T}
-use Rattle.std.proofs.Common.{inl, inr}
-use denote.Floats.{is_true}
-use Rattle.expand.specs.Graph.{Graph}
+use Rattle.std.specs.Prelude.{◌≡◌, ◌⊎◌, not, ◌&&◌, List, [], ◌∷◌, ◌++◌, ℕ, zero, suc, T}
 use Rattle.plan.specs.Lists.{first_of}
 use Rattle.plan.specs.Nodes.{Flow}
 use Rattle.plan.specs.Origins.{home_of}
 use Rattle.plan.specs.Schedule.{Task, compute_task, keep_task, store_task, task_reads, Plan, plan_of}
-use Rattle.plan.specs.Flow.{flow_of}
-use Rattle.allocate.specs.State.{Allocated, allocated, all_locked, and_then, Setting, State, Taken, TakenAll, register_of, is_fresh, begin}
-use Rattle.allocate.specs.Allocator.{take_register, fetch_held, fetch, fetch_all, read_later, result_register, run_compute, run_keep, run_store, preserve_if, preserve, home_code, run_task, allocate_task, reads_of, allocate}
-use Rattle.compile.specs.Draft.{control_setting, sample_setting, draft_of, compile_plan, compile_flow}
-use Rattle.compile.specs.Words.{compiled_of}
-use Rattle.compile.specs.Compile.{compile}
+use Rattle.allocate.specs.State.{allocated, Setting, State, Taken, TakenAll, register_of, is_fresh, begin}
+use Rattle.allocate.specs.Allocator.{fetch, fetch_all, read_later, home_code, allocate_task, reads_of, allocate}
+use Rattle.compile.specs.Draft.{control_setting, sample_setting}
 use Rattle.compiled.specs.Locked.{EveryLocked}
 
 -- ---- which operations ask for a register
