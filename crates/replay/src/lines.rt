@@ -1,7 +1,7 @@
 // Lines of 37 bytes: a name, told by its first letter, and three words of eight hex digits.
 ghost use Rattle.std.specs.Prelude.{◌≤◌, ◌<◌};
 
-use libc::STDIN_FILENO;
+use std::io::{self, ErrorKind, Read};
 
 #[derive(Clone, Copy)]
 pub struct Line {
@@ -41,23 +41,25 @@ pub fn plain(name: u8) -> Line {
     }
 }
 
-// The next line of standard input. Its name is 0 where there is none.
-pub fn read() -> Line {
+// The next line of the input. Its name is 0 where there is none.
+pub fn read<R: Read>(input: &mut R) -> io::Result<Line> {
     let mut bytes = [0u8; 37];
-    let got = io::read_full(STDIN_FILENO, &mut bytes);
-    if got < 37 {
-        return plain(0);
+    if let Err(error) = input.read_exact(&mut bytes) {
+        if error.kind() == ErrorKind::UnexpectedEof {
+            return Ok(plain(0));
+        }
+        return Err(error);
     }
     if bytes[0] == b'#' {
-        return plain(b'#');
+        return Ok(plain(b'#'));
     }
     let first = word_at(&bytes, 10);
     let second = word_at(&bytes, 19);
     let third = word_at(&bytes, 28);
-    Line {
+    Ok(Line {
         name: bytes[0],
         first,
         second,
         third,
-    }
+    })
 }

@@ -4,7 +4,7 @@
 
 ghost use Rattle.std.specs.Prelude.{◌≤◌};
 
-use libc::{STDIN_FILENO, STDOUT_FILENO};
+use std::io::{self, ErrorKind, Read};
 use std::num::wrapping_add_u64;
 
 fn digit(byte: u8) -> u32 {
@@ -108,38 +108,41 @@ struct Tally {
 
 // Reads one record and counts it, unless it is a comment. Keeping the loop out of it lets Rattle
 // prove it with no proof file.
-fn next(tally: Tally) -> Tally {
+fn next<R: Read>(rt: &impl Print, input: &mut R, tally: Tally) -> io::Result<Tally> {
     let mut line = [0u8; 32];
-    let got = io::read_full(STDIN_FILENO, &mut line);
-    if got < 32 {
-        return Tally {
-            vectors: tally.vectors,
-            differences: tally.differences,
-            ended: true,
-        };
+    if let Err(error) = input.read_exact(&mut line) {
+        if error.kind() == ErrorKind::UnexpectedEof {
+            return Ok(Tally {
+                vectors: tally.vectors,
+                differences: tally.differences,
+                ended: true,
+            });
+        }
+        return Err(error);
     }
     if line[0] == b'#' {
-        return tally;
+        return Ok(tally);
     }
     let vectors = wrapping_add_u64(tally.vectors, 1);
     if agrees(&line) {
-        return Tally {
+        return Ok(Tally {
             vectors: vectors,
             differences: tally.differences,
             ended: false,
-        };
+        });
     }
-    io::write_all(STDOUT_FILENO, &line);
+    rt.write_all(&line)?;
     let differences = wrapping_add_u64(tally.differences, 1);
-    Tally {
+    Ok(Tally {
         vectors: vectors,
         differences: differences,
         ended: false,
-    }
+    })
 }
 
 // A proved loop has to end, and nothing says that the input does: so it counts its turns.
-fn replay() -> Tally {
+fn replay(rt: &(impl Input + Print)) -> io::Result<Tally> {
+    let mut input = rt.reader();
     let mut tally = Tally {
         vectors: 0,
         differences: 0,
@@ -147,18 +150,17 @@ fn replay() -> Tally {
     };
     let mut turns = 1000000u32;
     while turns > 0 && !tally.ended {
-        let counted = next(tally);
+        let counted = next(rt, &mut input, tally)?;
         tally = counted;
         turns -= 1;
     }
-    tally
+    Ok(tally)
 }
 
-fn main() {
-    let tally = replay();
-    io::write_all(STDOUT_FILENO, b"words: ");
-    io::print_decimal(STDOUT_FILENO, tally.vectors);
-    io::write_all(STDOUT_FILENO, b" vectors, ");
-    io::print_decimal(STDOUT_FILENO, tally.differences);
-    io::write_all(STDOUT_FILENO, b" differences\n");
+fn main(rt: HostRuntime) -> io::Result<()> {
+    let tally = replay(&rt)?;
+    println!(rt;
+        "words: {} vectors, {} differences",
+        tally.vectors, tally.differences
+    )
 }
