@@ -4,9 +4,9 @@
 
 mod judge;
 
-use libc::STDOUT_FILENO;
 use replay::lines::Line;
 use replay::{lines, store};
+use std::io::{self, Read};
 use std::num::wrapping_add_u64;
 
 #[derive(Clone, Copy)]
@@ -18,62 +18,63 @@ struct Tally {
     last: Line,
 }
 
-fn print_difference(block: u64) {
-    io::write_all(STDOUT_FILENO, b"block ");
-    io::print_decimal(STDOUT_FILENO, block);
-    io::write_all(STDOUT_FILENO, b" differs\n");
+fn print_difference(rt: &impl Print, block: u64) -> io::Result<()> {
+    println!(rt; "block {block} differs")
 }
 
 // The tally with one more block.
-fn counted(tally: Tally, expanded: bool, agrees: bool) -> Tally {
+fn counted(rt: &impl Print, tally: Tally, expanded: bool, agrees: bool) -> io::Result<Tally> {
     let mut next = tally;
     let blocks = wrapping_add_u64(tally.blocks, 1);
     next.blocks = blocks;
     if !agrees {
-        print_difference(blocks);
+        print_difference(rt, blocks)?;
         let differences = wrapping_add_u64(tally.differences, 1);
         next.differences = differences;
-        return next;
+        return Ok(next);
     }
     if expanded {
         let expansions = wrapping_add_u64(tally.expansions, 1);
         next.expansions = expansions;
     }
-    next
+    Ok(next)
 }
 
 // Takes one line: an answer is compared and empties the tables, every other line adds to them.
-fn turn(
+fn turn<R: Read>(
+    rt: &impl Print,
+    input: &mut R,
     tally: Tally,
     words: &mut [u32; 164_000],
     counts: &mut [usize; 10],
     table: &mut [u32; 256],
-) -> Tally {
-    let line = lines::read();
+) -> io::Result<Tally> {
+    let line = lines::read(input)?;
     let mut next = tally;
     if line.name == b'#' {
-        return tally;
+        return Ok(tally);
     }
     if line.name == 0 {
         next.ended = true;
-        return next;
+        return Ok(next);
     }
     if line.name == b'r' {
         store::add(tally.last, line.first, words, counts);
-        return tally;
+        return Ok(tally);
     }
     if line.name == b'a' {
         let agrees = judge::agrees(line, words, counts, table);
         store::empty(counts);
-        return counted(tally, line.first == 0, agrees);
+        return counted(rt, tally, line.first == 0, agrees);
     }
     store::add(line, 1, words, counts);
     next.last = line;
-    next
+    Ok(next)
 }
 
 // A proved loop has to end, and nothing says that the input does: so it counts its turns.
-fn replay() -> Tally {
+fn replay(rt: &(impl Input + Print)) -> io::Result<Tally> {
+    let mut input = rt.reader();
     let mut words = [0u32; 164_000];
     let mut counts = [0usize; 10];
     let mut table = [0u32; 256];
@@ -86,20 +87,17 @@ fn replay() -> Tally {
     };
     let mut turns = 1000000u32;
     while turns > 0 && !tally.ended {
-        let next = turn(tally, &mut words, &mut counts, &mut table);
+        let next = turn(rt, &mut input, tally, &mut words, &mut counts, &mut table)?;
         tally = next;
         turns -= 1;
     }
-    tally
+    Ok(tally)
 }
 
-fn main() {
-    let tally = replay();
-    io::write_all(STDOUT_FILENO, b"blocks: ");
-    io::print_decimal(STDOUT_FILENO, tally.blocks);
-    io::write_all(STDOUT_FILENO, b" blocks, ");
-    io::print_decimal(STDOUT_FILENO, tally.expansions);
-    io::write_all(STDOUT_FILENO, b" expansions, ");
-    io::print_decimal(STDOUT_FILENO, tally.differences);
-    io::write_all(STDOUT_FILENO, b" differences\n");
+fn main(rt: HostRuntime) -> io::Result<()> {
+    let tally = replay(&rt)?;
+    println!(rt;
+        "blocks: {} blocks, {} expansions, {} differences",
+        tally.blocks, tally.expansions, tally.differences
+    )
 }

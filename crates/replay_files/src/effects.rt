@@ -1,6 +1,6 @@
 // Effect blocks, written and read back.
-use crate::words::Table;
-use crate::{answer, words};
+use crate::table_words::Table;
+use crate::{answer, table_words};
 use block::Header;
 use house::{BlockRead, Contents};
 
@@ -28,17 +28,17 @@ pub fn write(contents: Contents, file: &mut [u8]) -> usize {
     let mut states = [0u32; 60];
     let mut delays = [0u32; 60];
     let mut nodes = [0u32; 1_500];
-    words::fill(Table::Parameters, &mut parameters);
-    words::fill(Table::States, &mut states);
-    words::fill(Table::Delays, &mut delays);
-    words::fill(Table::Nodes, &mut nodes);
+    table_words::fill(Table::Parameters, &mut parameters);
+    table_words::fill(Table::States, &mut states);
+    table_words::fill(Table::Delays, &mut delays);
+    table_words::fill(Table::Nodes, &mut nodes);
     let head = contents.header;
     let written = house::write_block(
         head,
-        words::first(&parameters, 3 * (contents.parameters as usize)),
-        words::first(&states, 2 * (contents.states as usize)),
-        words::first(&delays, 2 * (contents.delays as usize)),
-        words::first(&nodes, 3 * (contents.nodes as usize)),
+        table_words::first(&parameters, 3 * (contents.parameters as usize)),
+        table_words::first(&states, 2 * (contents.states as usize)),
+        table_words::first(&delays, 2 * (contents.delays as usize)),
+        table_words::first(&nodes, 3 * (contents.nodes as usize)),
         file,
     );
     answer::bytes_of(written)
@@ -81,20 +81,20 @@ fn tables_hold(
     delays: &[u32],
     nodes: &[u32],
 ) -> bool {
-    if !words::holds(
+    if !table_words::holds(
         Table::Parameters,
         3 * (contents.parameters as usize),
         parameters,
     ) {
         return false;
     }
-    if !words::holds(Table::States, 2 * (contents.states as usize), states) {
+    if !table_words::holds(Table::States, 2 * (contents.states as usize), states) {
         return false;
     }
-    if !words::holds(Table::Delays, 2 * (contents.delays as usize), delays) {
+    if !table_words::holds(Table::Delays, 2 * (contents.delays as usize), delays) {
         return false;
     }
-    words::holds(Table::Nodes, 3 * (contents.nodes as usize), nodes)
+    table_words::holds(Table::Nodes, 3 * (contents.nodes as usize), nodes)
 }
 
 fn judge_read(contents: Contents, read: Contents, tables: bool) -> u32 {
@@ -139,7 +139,7 @@ pub fn round_trip(contents: Contents) -> bool {
     if size != house::block_bytes(contents) {
         return false;
     }
-    if !words::bytes_kept(&file, size) {
+    if !table_words::bytes_kept(&file, size) {
         return false;
     }
     read(contents, answer::part(&file, size)) == answer::SAME

@@ -6,11 +6,11 @@ mod answer;
 mod damage;
 mod effects;
 mod renderings;
-mod words;
+mod table_words;
 
 use damage::Tally;
 use house::Contents;
-use libc::STDOUT_FILENO;
+use std::io;
 
 // The numbers of samples: a payload of 1, 123, 124, 125 and 248 words, and one of many.
 fn samples_of(turn: u32) -> u32 {
@@ -56,37 +56,36 @@ fn round_trip(kind: u32, turn: u32) -> bool {
     renderings::round_trip(kind, samples_of(turn))
 }
 
-fn print_round_trips(subject: &[u8], kind: u32) {
-    io::write_all(STDOUT_FILENO, subject);
-    io::print_decimal(STDOUT_FILENO, read_back(kind) as u64);
-    io::write_all(STDOUT_FILENO, b" of 6 read back\n");
+fn print_round_trips(rt: &impl Print, subject: &[u8], kind: u32) -> io::Result<()> {
+    rt.write_all(subject)?;
+    println!(rt; "{} of 6 read back", read_back(kind))
 }
 
-fn print_tally(subject: &[u8], tally: Tally) {
-    io::write_all(STDOUT_FILENO, subject);
-    io::print_decimal(STDOUT_FILENO, tally.read as u64);
-    io::write_all(STDOUT_FILENO, b" read, ");
-    io::print_decimal(STDOUT_FILENO, tally.checks as u64);
-    io::write_all(STDOUT_FILENO, b" of 20, ");
-    io::print_decimal(STDOUT_FILENO, tally.frames as u64);
-    io::write_all(STDOUT_FILENO, b" of 21, ");
-    io::print_decimal(STDOUT_FILENO, tally.wrong as u64);
-    io::write_all(STDOUT_FILENO, b" wrong\n");
+fn print_tally(rt: &impl Print, subject: &[u8], tally: Tally) -> io::Result<()> {
+    rt.write_all(subject)?;
+    println!(rt;
+        "{} read, {} of 20, {} of 21, {} wrong",
+        tally.read, tally.checks, tally.frames, tally.wrong
+    )
 }
 
-fn main() {
-    print_round_trips(b"blocks: ", 1);
-    print_round_trips(b"graph renderings: ", 2);
-    print_round_trips(b"step renderings: ", 3);
-    print_tally(b"one bit of a block: ", damage::flips(1));
-    print_tally(b"one bit of a graph rendering: ", damage::flips(2));
-    print_tally(b"one bit of a step rendering: ", damage::flips(3));
-    print_tally(b"two bits, kind: ", damage::pairs(2, 0));
-    print_tally(b"two bits, number: ", damage::pairs(2, 1));
-    print_tally(b"two bits, used count: ", damage::pairs(2, 2));
-    print_tally(b"two bits, first payload word: ", damage::pairs(3, 3));
-    print_tally(b"two bits, another payload word: ", damage::pairs(3, 64));
-    print_tally(b"cut block: ", damage::cuts(1));
-    print_tally(b"cut graph rendering: ", damage::cuts(2));
-    print_tally(b"cut step rendering: ", damage::cuts(3));
+fn main(rt: HostRuntime) -> io::Result<()> {
+    print_round_trips(&rt, b"blocks: ", 1)?;
+    print_round_trips(&rt, b"graph renderings: ", 2)?;
+    print_round_trips(&rt, b"step renderings: ", 3)?;
+    print_tally(&rt, b"one bit of a block: ", damage::flips(1))?;
+    print_tally(&rt, b"one bit of a graph rendering: ", damage::flips(2))?;
+    print_tally(&rt, b"one bit of a step rendering: ", damage::flips(3))?;
+    print_tally(&rt, b"two bits, kind: ", damage::pairs(2, 0))?;
+    print_tally(&rt, b"two bits, number: ", damage::pairs(2, 1))?;
+    print_tally(&rt, b"two bits, used count: ", damage::pairs(2, 2))?;
+    print_tally(&rt, b"two bits, first payload word: ", damage::pairs(3, 3))?;
+    print_tally(
+        &rt,
+        b"two bits, another payload word: ",
+        damage::pairs(3, 64),
+    )?;
+    print_tally(&rt, b"cut block: ", damage::cuts(1))?;
+    print_tally(&rt, b"cut graph rendering: ", damage::cuts(2))?;
+    print_tally(&rt, b"cut step rendering: ", damage::cuts(3))
 }

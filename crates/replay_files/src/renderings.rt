@@ -1,6 +1,6 @@
 // Renderings, written and read back.
-use crate::words::Table;
-use crate::{answer, words};
+use crate::table_words::Table;
+use crate::{answer, table_words};
 use house::{Engine, Rendering, RenderingRead};
 
 fn engine_of(kind: u32) -> Engine {
@@ -20,9 +20,13 @@ fn is_kind(engine: Engine, kind: u32) -> bool {
 // Writes the first `count` samples.
 pub fn write(kind: u32, count: u32, file: &mut [u8]) -> usize {
     let mut samples = [0u32; 10_000];
-    words::fill(Table::Samples, &mut samples);
+    table_words::fill(Table::Samples, &mut samples);
     let engine = engine_of(kind);
-    let written = house::write_rendering(engine, words::first(&samples, count as usize), file);
+    let written = house::write_rendering(
+        engine,
+        table_words::first(&samples, count as usize),
+        file,
+    );
     answer::bytes_of(written)
 }
 
@@ -36,18 +40,18 @@ fn judge_read(rendering: Rendering, kind: u32, count: u32, back: &[u32]) -> u32 
         return answer::WRONG;
     }
     let end = count as usize;
-    let different = words::differing(Table::Samples, end, back);
+    let different = table_words::differing(Table::Samples, end, back);
     answer::read(different)
 }
 
 // The answer on a file that should hold the first `count` samples.
 pub fn read(kind: u32, count: u32, file: &[u8], back: &mut [u32]) -> u32 {
-    words::fill(Table::Lent, back);
+    table_words::fill(Table::Lent, back);
     let result = house::read_rendering(file, back);
     match result {
         RenderingRead::Read(rendering) => judge_read(rendering, kind, count, back),
         RenderingRead::Refused(refusal) => {
-            let kept = words::holds(Table::Lent, 0, back);
+            let kept = table_words::holds(Table::Lent, 0, back);
             answer::refused(refusal, kept)
         }
     }
@@ -60,7 +64,7 @@ pub fn round_trip(kind: u32, count: u32) -> bool {
     if size != house::rendering_bytes(count) {
         return false;
     }
-    if !words::bytes_kept(&file, size) {
+    if !table_words::bytes_kept(&file, size) {
         return false;
     }
     reads_back(kind, count, answer::part(&file, size))
@@ -71,5 +75,5 @@ fn reads_back(kind: u32, count: u32, file: &[u8]) -> bool {
     if read(kind, count, file, &mut back) != answer::SAME {
         return false;
     }
-    words::holds(Table::Samples, count as usize, &back)
+    table_words::holds(Table::Samples, count as usize, &back)
 }

@@ -1,0 +1,6 @@
+-- `bytes_kept` is safe and ends: `at` is below the bytes' number where they are read.
+use Rattle.std.proofs.Common.{◌-◌, length}
+use Rattle.replay_files.proofs.table_words.bytes_kept.Given as goal
+
+abbrev pub decreases-loop-at : goal.decreases-loop-at
+decreases-loop-at l = length l.bytes - l.at

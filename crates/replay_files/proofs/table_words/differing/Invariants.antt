@@ -1,0 +1,6 @@
+-- `differing` is safe and ends: `at` is below `count`, which is at most the table's length.
+use Rattle.std.proofs.Common.{◌-◌}
+use Rattle.replay_files.proofs.table_words.differing.Given as goal
+
+abbrev pub decreases-loop-at : goal.decreases-loop-at
+decreases-loop-at l = l.count - l.at

@@ -1,0 +1,9 @@
+-- `fill` is safe and ends: `at` is below the table's length at each store, and a store keeps the length.
+use Rattle.std.proofs.Common.{◌≡◌, ◌-◌, length}
+use Rattle.replay_files.proofs.table_words.fill.Given as goal
+
+abbrev pub invariant-loop-at : goal.invariant-loop-at
+invariant-loop-at l = length l.words ≡ length l.initial.words
+
+abbrev pub decreases-loop-at : goal.decreases-loop-at
+decreases-loop-at l = length l.initial.words - l.at

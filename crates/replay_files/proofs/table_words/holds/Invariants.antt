@@ -1,0 +1,6 @@
+-- `holds` is safe and ends: `at` is below the table's length where it is read.
+use Rattle.std.proofs.Common.{◌-◌, length}
+use Rattle.replay_files.proofs.table_words.holds.Given as goal
+
+abbrev pub decreases-loop-at : goal.decreases-loop-at
+decreases-loop-at l = length l.words - l.at
