@@ -1,4 +1,4 @@
--- `holds` is safe and ends: `at` is below each table's length where the table is read.
+-- `holds` ends: `at` goes up to the table's length.
 use Rattle.std.proofs.Common.{◌-◌, length}
 use Rattle.replay_compiles.proofs.judge.holds.Given as goal
 

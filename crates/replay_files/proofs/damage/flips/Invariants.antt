@@ -1,9 +1,6 @@
--- `flips` is safe and ends: the loop goes over the file's bits. Each turn keeps the file's length.
-use Rattle.std.proofs.Common.{◌≡◌, ◌-◌, length}
+-- `flips` ends: the loop goes over the file's bits. Nothing has to hold from turn to turn.
+use Rattle.std.proofs.Common.{◌-◌}
 use Rattle.replay_files.proofs.damage.flips.Given as goal
-
-abbrev pub invariant-loop-bit : goal.invariant-loop-bit
-invariant-loop-bit l = length l.file ≡ 1024
 
 abbrev pub decreases-loop-bit : goal.decreases-loop-bit
 decreases-loop-bit l = 8192 - l.bit

@@ -1,4 +1,4 @@
--- `bytes_kept` is safe and ends: `at` is below the bytes' number where they are read.
+-- `bytes_kept` ends: `at` goes up to the bytes' number.
 use Rattle.std.proofs.Common.{◌-◌, length}
 use Rattle.replay_files.proofs.table_words.bytes_kept.Given as goal
 

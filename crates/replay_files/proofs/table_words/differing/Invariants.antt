@@ -1,4 +1,4 @@
--- `differing` is safe and ends: `at` is below `count`, which is at most the table's length.
+-- `differing` ends: `at` goes up to `count`.
 use Rattle.std.proofs.Common.{◌-◌}
 use Rattle.replay_files.proofs.table_words.differing.Given as goal
 

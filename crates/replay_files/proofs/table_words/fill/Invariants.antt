@@ -1,9 +1,6 @@
--- `fill` is safe and ends: `at` is below the table's length at each store, and a store keeps the length.
-use Rattle.std.proofs.Common.{◌≡◌, ◌-◌, length}
+-- `fill` ends: `at` goes up to the table's length, which a store keeps.
+use Rattle.std.proofs.Common.{◌-◌, length}
 use Rattle.replay_files.proofs.table_words.fill.Given as goal
-
-abbrev pub invariant-loop-at : goal.invariant-loop-at
-invariant-loop-at l = length l.words ≡ length l.initial.words
 
 abbrev pub decreases-loop-at : goal.decreases-loop-at
 decreases-loop-at l = length l.initial.words - l.at

@@ -1,4 +1,4 @@
--- `holds` is safe and ends: `at` is below the table's length where it is read.
+-- `holds` ends: `at` goes up to the table's length.
 use Rattle.std.proofs.Common.{◌-◌, length}
 use Rattle.replay_files.proofs.table_words.holds.Given as goal
 
