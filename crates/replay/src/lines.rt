@@ -41,7 +41,7 @@ pub fn plain(name: u8) -> Line {
     }
 }
 
-// The next line of the input. Its name is 0 where there is none.
+// The next line of the input. Its name is 0 where there is none. An error is the reader's own, handed on; no other comes, and nothing but the reader is lent.
 pub fn read<R: Read>(input: &mut R) -> io::Result<Line> {
     let mut bytes = [0u8; 37];
     if let Err(error) = input.read_exact(&mut bytes) {
