@@ -1,6 +1,7 @@
-//! qc-asm's lib.rs looks for `visa.rs` and `../README.md` beside itself, which were not published. So it is
-//! compiled through a link, in a folder of OUT_DIR that holds links to our stand-ins where it looks for them.
-use std::{env, fs, os::unix::fs::symlink, path::Path};
+//! qc-asm's lib.rs looks for `visa.rs` and `../README.md` beside itself, which were not published. So a copy of it
+//! is compiled, in a folder of OUT_DIR that holds copies of our stand-ins where it looks for them. (Not links: the
+//! gate takes none, wherever below the repository they stand.)
+use std::{env, fs, path::Path};
 
 fn main() {
     let here = env::var("CARGO_MANIFEST_DIR").unwrap();
@@ -11,13 +12,12 @@ fn main() {
     let out = Path::new(&out);
     let src = out.join("src");
     fs::create_dir_all(&src).unwrap();
-    for (target, link) in [
+    for (from, to) in [
         (rust.clone(), src.join("lib.rs")),
         (here.join("stand-in/visa.rs"), src.join("visa.rs")),
         (here.join("stand-in/README.md"), out.join("README.md")),
     ] {
-        let _ = fs::remove_file(&link);
-        symlink(target, link).unwrap();
+        fs::copy(from, to).unwrap();
     }
     fs::write(
         out.join("glue.rs"),
