@@ -18,15 +18,12 @@ use Rattle.kernel.specs.declared.Phase.{Phase}
 use Rattle.kernel.specs.declared.Phase.TheVariants.{Control, Sample}
 use Rattle.kernel.specs.Steps.{step_at, allowed_in}
 use Rattle.kernel.specs.Instructions.{destination, instruction_at}
-use Rattle.step_run.specs.Run.{Code, code_of}
+use Rattle.step_run.specs.Run.{Code}
 use Rattle.checker.specs.Walk.{Listing, sizes_of, Held, register, loaded_class, result_of_two, result_of_one, computed_class, words_class, with_result, after_step, emptied, entered, before_control, before_sample, walk_answer}
 use Rattle.agree.specs.Files.{File, file_get, file_set, file_empty}
 use Rattle.agree.specs.Passed.{StepPassed, WordsPassed, Passed, passed, walk_keeps, unless_says, two_says, one_says, asked_says}
 use Rattle.agree.specs.Marks.{Marks, is_filled, source_filled, operands_filled, instruction_filled, reads_filled, fill_result, fill, marks_to, unfilled, sample_begins, marks_before_control, marks_at_sample, marks_before_sample, is_sure, words_sure}
-
--- the code of a listing
-abbrev pub code_in : Listing → Code
-code_in l = code_of l.kernel l.steps l.instructions
+use Rattle.agree.specs.Filled.{code_in}
 
 -- what the checker holds something of is marked
 one : ℕ → ℕ

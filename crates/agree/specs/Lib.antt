@@ -9,6 +9,7 @@ pub mod Steps
 pub mod Unchanged
 pub mod Agree
 pub mod Marks
+pub mod Filled
 pub mod Calls
 pub mod Checked
 pub mod CheckedLaws

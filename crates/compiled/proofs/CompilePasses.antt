@@ -19,7 +19,6 @@ use Rattle.expand.specs.GraphLaws.{good_graph}
 use Rattle.kernel.specs.declared.Phase.TheVariants.{Control}
 use Rattle.kernel.specs.declared.Kernel.{Kernel}
 use Rattle.kernel.specs.Steps.{step_at}
-use Rattle.kernel.specs.Instructions.{instruction_at}
 use Rattle.checker.specs.Walk.{Listing, emptied, entered, walked, before_control, before_sample, words_pass, control_passes, sample_passes, control_answer, sample_answer, walk_answer, nothing_missing}
 use Rattle.checker.specs.Check.{listing_of}
 use Rattle.checker.specs.Passing.{Passes}
@@ -39,7 +38,9 @@ use Rattle.compiled.specs.Went.{AllSmall, actions_small, okay_start}
 use Rattle.compiled.specs.Stands.{Stands, stands_first, stands_second, words_stand}
 use Rattle.compiled.specs.Passes.{Sound, list}
 use Rattle.compiled.proofs.Walked.{control_walk, sample_walk}
-use Rattle.compiled.proofs.DraftWalks.{Walks, left_start, draft_walks}
+use Rattle.compiled.specs.DraftWalks.{Walks}
+use Rattle.compiled.proofs.DraftWalks.{left_start, draft_walks}
+use Rattle.compiled.specs.CompilePasses.{Agree}
 
 -- ---- generic: where each record is accepted, all are
 in_order_all : (answer : ℕ → Answer Unit) (n : ℕ) → ((i : ℕ) → i < n → answer i ≡ accepted tt) → in_order answer n ≡ accepted tt
@@ -59,11 +60,6 @@ walk_accepted l c s e =
 all_small_append : (xs ys : List Action) → AllSmall xs → AllSmall ys → AllSmall (xs ++ ys)
 all_small_append [] ys a b = b
 all_small_append (x ∷ xs) ys a b = (a.0, all_small_append xs ys a.1 b)
-
--- tables that agree with a kernel's words below its counts: the rest is not read
-pub record Agree (c : Compiled) (steps instructions : List ℕ) : Type 0 where
-  pub same_steps : (i : ℕ) → i < c.kernel.control + c.kernel.sample → step_at steps i ≡ step_at c.steps i
-  pub same_instructions : (i : ℕ) → i < c.kernel.instructions → instruction_at instructions i ≡ instruction_at c.instructions i
 
 module _ (counts : Counts) (g : Graph) (sound : Sound counts g) (mask : ℕ) (d : Draft) (w : Walks g mask d) where
   abbrev actions : List Action

@@ -10,7 +10,8 @@ use Rattle.compile.specs.Call.{Tables, Done, too_short, zero_past, compile_call}
 use Rattle.compile.specs.Draft.{usable}
 use Rattle.compile.specs.Gives.{call_accepts}
 use Rattle.compile.specs.Bounds.{Fits, compile_bounds, room, SameLengths, call_lengths}
-use Rattle.compiled.proofs.CompilePasses.{Agree, compile_passes_in}
+use Rattle.compiled.specs.CompilePasses.{Agree}
+use Rattle.compiled.proofs.CompilePasses.{compile_passes_in}
 use Rattle.compiled.specs.CompiledChecks.{CheckAccepts, check_walks, call_accepted, steps_in_front, instructions_in_front}
 
 -- WHERE COMPILE ACCEPTS, CHECK ACCEPTS

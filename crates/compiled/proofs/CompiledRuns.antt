@@ -23,10 +23,7 @@ use Rattle.compile.specs.Call.{Done, Tables, compile_call}
 use Rattle.compiled.proofs.CompilePasses.{compile_passes}
 use Rattle.compiled.specs.CompiledChecks.{CheckRoom}
 use Rattle.compiled.proofs.CompiledChecks.{compiled_checks}
-
--- a compiled kernel with its tables
-abbrev pub code_of : Compiled → Step.Code
-code_of c = Step.code_of c.kernel c.steps c.instructions
+use Rattle.compiled.specs.CompiledRuns.{code_of, code_left}
 
 -- for every valid block and mask, whatever the memories, parameter values and signals of the right sizes: after each of n samples output, states, delay cells and
 -- cursors are the graph run's, bit for bit
@@ -37,10 +34,6 @@ pub compiled_runs : (b : Block) → Valid b → (mask : ℕ) (c : Compiled) → 
     → rendered (Step.run_for (Step.setup_of b (code_of c) s) t n).output (Step.run_for (Step.setup_of b (code_of c) s) t n).machine.memories
     ≡ samples_to (graph_of b) b.header.network s t.rendered n
 compiled_runs b valid mask c e s t = agree b valid mask (code_of c) (compile_passes b valid mask c e) s t
-
--- the code that a call of compile leaves
-abbrev pub code_left : Block → ℕ → Tables → Done → Step.Code
-code_left b mask t done = Step.code_of done.kernel (compile_call b mask t).tables.steps (compile_call b mask t).tables.instructions
 
 -- tables that are long enough for the checker
 roomy : Block → Kernel → Check.Tables

@@ -21,15 +21,16 @@ use Rattle.allocate.specs.Actions.{Action}
 use Rattle.allocate.specs.State.{Allocated, allocated, all_locked, Setting, State, begin}
 use Rattle.allocate.specs.Allocator.{allocate}
 use Rattle.allocate.specs.Outcomes.{Post, post_bind, post_and}
-use Rattle.compile.specs.Draft.{Draft, usable, control_setting, sample_setting, draft_of, compile_plan, compile_flow}
-use Rattle.compiled.specs.Marks.{Marks, Rules, goes, walk_actions, start_marks}
+use Rattle.compile.specs.Draft.{control_setting, sample_setting, draft_of, compile_plan, compile_flow}
+use Rattle.compiled.specs.Marks.{Rules, start_marks}
 use Rattle.compiled.specs.TrackedTasks.{WriteCode, to_state, to_delay}
 use Rattle.compiled.specs.TrackedPhases.{WriteOk, Full, ControlGoes, SampleGoes, control_goes, sample_goes}
 use Rattle.compiled.specs.Meanings.{rules, class_word, class, sample_meaning, sample_loads, control_meaning, control_loads}
 use Rattle.compiled.specs.Stores.{post_all, stores, task_stores, Ended, run_ended}
-use Rattle.compiled.specs.Writes.{total, schedule_total, outputs_none}
+use Rattle.compiled.specs.Writes.{schedule_total, outputs_none}
 use Rattle.compiled.proofs.Writes.{states_once, delays_once}
-use Rattle.compiled.proofs.Left.{Left}
+use Rattle.compiled.specs.Left.{Left}
+use Rattle.compiled.specs.DraftWalks.{Must, Walks}
 
 -- each write stores the class that its update asks for
 writes_asked : (R : Rules) (g : Graph) (c : ℕ) (all : List ℕ) → WriteCode c → (c ≡ 12 → ⊥) → ((i : ℕ) → R.asked_class c i ≡ class_word g (get_or all i 0))
@@ -44,19 +45,6 @@ writes_asked R g c all wc nt h (suc n ∷ us) pre k e q =
       writes_asked R g c all wc nt h us (pre ++ (suc n ∷ [])) (suc k)
           (omega (arith, length-append pre (suc n ∷ []))) (append_snoc pre (suc n) us ∙ q),
     )
-
--- how many stores of code c and index i there must be
-abbrev pub Must : Graph → ℕ → ℕ → ℕ
-Must g c i = total c i (λ w. true) (writes (flow_of g))
-
--- a draft's two phases go through the walk, and its sample steps store what they must
-pub record Walks (g : Graph) (mask : ℕ) (d : Draft) : Type 0 where
-  pub between : Marks
-  pub control : walk_actions (usable mask) true (rules g true [] d.control_slots) (start_marks (rules g true [] d.control_slots)) d.control_steps ≡ goes between
-  pub after : Marks
-  pub sample : walk_actions (usable mask) false (rules g false between.slots d.spill_slots) (start_marks (rules g false between.slots d.spill_slots))
-      d.sample_steps ≡ goes after
-  pub ended : Ended (Must g) d.sample_steps
 
 -- what is left at the start: all
 pub left_start : (g : Graph) (control_slots : List ℕ) (declared : ℕ) (ys : List Action) → ((c i : ℕ) → stores c i ys ≡ Must g c i)

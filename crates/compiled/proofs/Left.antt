@@ -14,14 +14,7 @@ use Rattle.compiled.specs.Marks.{Marks}
 use Rattle.compiled.specs.Stores.{one, action_stores, stores}
 use Rattle.compiled.specs.Writes.{asked_once, one_miss}
 use Rattle.compiled.specs.SamplePasses.{Free, after_states, after_delays}
-
--- what is stored and what the actions left store make up what must be stored
-pub record Left (g : Graph) (m : Marks) (ys : List Action) : Type 0 where
-  pub states : (i : ℕ) → get_or m.states_stored i 0 + stores 10 i ys ≡ asked_once (get_or g.state_updates i 0)
-  pub delays : (i : ℕ) → get_or m.delays_stored i 0 + stores 11 i ys ≡ asked_once (get_or g.delay_updates i 0)
-  pub outputs : stores 12 0 ys ≡ 0
-  pub states_length : length m.states_stored ≡ length g.state_updates
-  pub delays_length : length m.delays_stored ≡ length g.delay_updates
+use Rattle.compiled.specs.Left.{Left}
 
 -- ---- the end: nothing is left
 

@@ -26,7 +26,8 @@ use Rattle.compiled.specs.Stands.{Stands}
 use Rattle.compiled.specs.Passes.{Sound, list}
 use Rattle.compiled.specs.SamplePasses.{sample_rules, held_sample, sample_passes, output_passes}
 use Rattle.compiled.specs.ControlPasses.{control_rules, held_control, control_passes}
-use Rattle.compiled.proofs.Left.{Left, left_free, left_next, nothing_missing_lem}
+use Rattle.compiled.specs.Left.{Left}
+use Rattle.compiled.proofs.Left.{left_free, left_next, nothing_missing_lem}
 
 -- what holds of i, and of each j behind it
 here_or_behind : (P : ℕ → Type 0) (i j : ℕ) → i ≤ j → P i → (suc i ≤ j → P j) → P j

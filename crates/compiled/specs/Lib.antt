@@ -13,15 +13,20 @@ pub mod Writes
 pub mod Finds
 pub mod Codes
 pub mod Meanings
--- what goes through the walk, as words in two tables, passes the checker: proofs/Walked, proofs/DraftWalks, proofs/CompilePasses
+pub mod DraftWalks
+-- what goes through the walk, as words in two tables, passes the checker: the theorems are proofs/Walked, proofs/DraftWalks, proofs/CompilePasses
 pub mod Operations
 pub mod Went
 pub mod Stands
 pub mod Passes
 pub mod SamplePasses
 pub mod ControlPasses
+pub mod Left
+pub mod CompilePasses
 -- THE STATEMENTS, whose theorems stand in proofs/: what check accepts of what compile leaves
 pub mod CompiledChecks
+-- with `agree`: the code that a call of compile leaves
+pub mod CompiledRuns
 -- answer 14 exactly: in which state every usable register is locked
 pub mod Locked
 pub mod LockedRun

@@ -18,6 +18,7 @@ use Rattle.memory.specs.LineLaws.{fit_store, fit_state}
 use Rattle.memory.specs.Signals.{Given}
 use Rattle.machine.specs.Machine.{Machine, Program, act, act_words, steps_to}
 use Rattle.machine.specs.Ready.{Ready, MayRun, Listed, Lengths, lengths_of, counting}
+use Rattle.machine.specs.StepLaws.{Going}
 
 -- ---- what a step that may run has passed
 module _ (n : Sizes) (instructions : List ℕ) (phase : Phase) (step : Step) where
@@ -151,11 +152,6 @@ ready_kept k instructions delays bases m₀ m e f r =
     }
 
 -- ---- the loop over the steps of a phase: what it keeps after i steps
-pub record Going (p : Program) (steps : List ℕ) (x : Given) (first : ℕ) (m₀ m : Machine) (i : ℕ) : Type 0 where
-  pub so_far : (n : ℕ) → counting m (n + i) ≡ steps_to p steps x (counting m₀ n) first i
-  pub kept : lengths_of m ≡ lengths_of m₀
-  pub fit : Fit p.lengths m.memories.area m.memories.cursors
-
 pub going_start : (p : Program) (steps : List ℕ) (x : Given) (first : ℕ) (m : Machine) → Fit p.lengths m.memories.area m.memories.cursors
     → Going p steps x first m m 0
 unfolding steps_to

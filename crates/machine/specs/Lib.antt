@@ -4,3 +4,5 @@ pub mod Machine
 pub mod Registers
 -- what the functions of a phase require
 pub mod Ready
+-- a run of steps under way
+pub mod StepLaws

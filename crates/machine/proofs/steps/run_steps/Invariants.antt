@@ -4,7 +4,7 @@ use Rattle.memory.specs.Lines.{memories}
 use Rattle.memory.specs.Fit.{line_lengths}
 use Rattle.memory.specs.Signals.{given}
 use Rattle.machine.specs.Machine.{machine, program}
-use Rattle.machine.proofs.StepLaws.{Going}
+use Rattle.machine.specs.StepLaws.{Going}
 use Rattle.machine.proofs.steps.run_steps.Given as goal
 
 abbrev pub invariant-loop-i : goal.invariant-loop-i
