@@ -1,5 +1,5 @@
 -- What the checker passes never reads a register or a slot that is not filled: `never_unfilled`. Assumes nothing.
-use Rattle.std.specs.Prelude.{◌≡◌, refl, Bool, true, false, List, get_or, replicate}
+use Rattle.std.specs.Prelude.{◌≡◌, refl, Bool, true, false, List, get_or, replicate, Option, Some, None}
 use Rattle.std.proofs.Common.{sym, ◌∙◌, zero-add, arith, eq-eqb}
 use Prim.Native.Nat.{ℕ, zero, suc, ◌+◌, ◌≤◌, ◌<◌}
 use Rattle.std.proofs.Math.Dec.{eqb}
@@ -10,10 +10,8 @@ use Rattle.expand.specs.Graph.{Graph}
 use Rattle.kernel.specs.declared.Source.{Source}
 use Rattle.kernel.specs.declared.Step.{Step}
 use Rattle.kernel.specs.declared.Step.TheVariants.{Load, Compute, Spill, Reload, StoreState, StoreDelay, StoreOutput, StoreControl}
-use Rattle.kernel.specs.declared.StepWords.{StepWords}
 use Rattle.kernel.specs.declared.Instruction.{Instruction}
 use Rattle.kernel.specs.declared.Instruction.TheVariants.{Immediate, Add, Sub, Mul, Min, Max, Neg, Abs, IntegerSub}
-use Rattle.kernel.specs.declared.InstructionWords.{InstructionWords}
 use Rattle.kernel.specs.declared.Phase.{Phase}
 use Rattle.kernel.specs.declared.Phase.TheVariants.{Control, Sample}
 use Rattle.kernel.specs.Steps.{step_at, allowed_in}
@@ -69,9 +67,9 @@ operands_filled_lem g h m (Neg dst a) k e q = one_filled g 12 h m a k e q
 operands_filled_lem g h m (Abs dst a) k e q = one_filled g 13 h m a k e q
 operands_filled_lem g h m (IntegerSub dst a b) k e q = two_filled g 10 h m a b k e q
 
-instruction_filled_lem : (g : Graph) (h : Held) (m : Marks) (w : InstructionWords) (k : ℕ) → words_class g h w ≡ suc k → Marked h m → instruction_filled m w ≡ true
-instruction_filled_lem g h m (InstructionWords.Formed i) k e q = operands_filled_lem g h m i k e q
-instruction_filled_lem g h m InstructionWords.Malformed k e q = absurd (omega arith)
+instruction_filled_lem : (g : Graph) (h : Held) (m : Marks) (w : Option Instruction) (k : ℕ) → words_class g h w ≡ suc k → Marked h m → instruction_filled m w ≡ true
+instruction_filled_lem g h m (Some i) k e q = operands_filled_lem g h m i k e q
+instruction_filled_lem g h m None k e q = absurd (omega arith)
 
 step_filled : (l : Listing) (phase : Phase) (last : Bool) (h : Held) (m : Marks) (step : Step) → StepPassed l phase last h step → Marked h m
     → reads_filled l.instructions m step ≡ true
@@ -86,17 +84,17 @@ step_filled l phase last h m (StoreDelay i r) p q =
 step_filled l phase last h m (StoreOutput r) p q = filled_at q.0 r p.class (asked_says l.graph _ _ p.class p.moved).moved
 step_filled l phase last h m (StoreControl slot r) p q = filled_at q.0 r p.class p.moved
 
-step_sure : (l : Listing) (phase : Phase) (last : Bool) (h : Held) (m : Marks) (w : StepWords) → WordsPassed l phase last h w → Marked h m
+step_sure : (l : Listing) (phase : Phase) (last : Bool) (h : Held) (m : Marks) (w : Option Step) → WordsPassed l phase last h w → Marked h m
     → words_sure (sizes_of l) l.instructions m w ≡ true
 unfolding is_sure
 step_sure l phase last h m w p q =
     rw p.words (&_true _ _ (step_filled l phase last h m p.step p.passed q) (&_true _ _ p.passed.inside p.passed.formed))
 
 -- ---- what a step fills is marked
-result_marked : (h : Held) (m : Marks) (w : InstructionWords) (class : ℕ) → Marked h m → Marked (with_result h w class) (fill_result m w)
+result_marked : (h : Held) (m : Marks) (w : Option Instruction) (class : ℕ) → Marked h m → Marked (with_result h w class) (fill_result m w)
 unfolding one
-result_marked h m (InstructionWords.Formed i) class (r, c, s) = (file_set _ r (destination i) _ _ (λ k e. refl), c, s)
-result_marked h m InstructionWords.Malformed class q = q
+result_marked h m (Some i) class (r, c, s) = (file_set _ r (destination i) _ _ (λ k e. refl), c, s)
+result_marked h m None class q = q
 
 step_marked : (l : Listing) (h : Held) (m : Marks) (step : Step) → Marked h m → Marked (after_step l h step) (fill l.instructions m step)
 unfolding one after_step
@@ -109,7 +107,7 @@ step_marked l h m (StoreDelay i r) q = q
 step_marked l h m (StoreOutput r) q = q
 step_marked l h m (StoreControl slot r) (a, c, s) = (a, file_set _ c slot _ _ (λ k e. refl), s)
 
-next_marks : (c : Code) (m : Marks) (from i : ℕ) (step : Step) → step_at c.steps (from + i) ≡ StepWords.Formed step
+next_marks : (c : Code) (m : Marks) (from i : ℕ) (step : Step) → step_at c.steps (from + i) ≡ Some step
     → marks_to c m from (suc i) ≡ fill c.instructions (marks_to c m from i) step
 unfolding marks_to
 next_marks c m from i step e = rw e
@@ -128,9 +126,9 @@ control_left : (instructions : List ℕ) (m : Marks) (step : Step) → allowed_i
 control_left instructions m (Load source r) a = refl
 control_left instructions m (Compute i) a = go (instruction_at instructions i)
   where
-    go : (w : InstructionWords) → (fill_result m w).control ≡ m.control
-    go (InstructionWords.Formed instruction) = refl
-    go InstructionWords.Malformed = refl
+    go : (w : Option Instruction) → (fill_result m w).control ≡ m.control
+    go (Some instruction) = refl
+    go None = refl
 control_left instructions m (Spill slot r) a = refl
 control_left instructions m (Reload slot r) a = refl
 control_left instructions m (StoreState state r) a = refl

@@ -10,7 +10,7 @@ use Rattle.tables.specs.Lists.{list_length}
 use Rattle.tables.specs.Zeros.{zeros_length}
 use Rattle.answers.specs.Numbers.{accepted}
 use Rattle.block.specs.Block.{Block, delay_count}
-use Rattle.block.specs.Validation.{Counts}
+use Rattle.block.specs.declared.Counts.{Counts}
 use Rattle.block.specs.Valid.{Valid}
 use Rattle.expand.specs.Graph.{graph_of}
 use Rattle.expand.specs.GraphLaws.{GoodGraph, good_graph}

@@ -12,6 +12,7 @@ pub mod Marks
 pub mod Filled
 pub mod Calls
 pub mod Checked
+pub mod Lent
 pub mod CheckedLaws
 pub mod Ordered
 pub mod OrderedLaws

@@ -1,17 +1,16 @@
 -- Filled marks: which registers and slots a run has filled before each step, and what a step reads and fills. It looks at no value. Definitions alone.
-use Rattle.std.specs.Prelude.{Bool, true, false, List, ℕ, zero, suc, ◌+◌, get_or, set, replicate, eqb}
+use Rattle.std.specs.Prelude.{Bool, true, false, List, ℕ, zero, suc, ◌+◌, get_or, set, replicate, eqb, Option, Some, None}
 use Rattle.tables.specs.Tests.{◌&◌}
 use Rattle.kernel.specs.declared.Source.{Source}
 use Rattle.kernel.specs.declared.Step.{Step}
 use Rattle.kernel.specs.declared.Step.TheVariants.{Load, Compute, Spill, Reload, StoreState, StoreDelay, StoreOutput, StoreControl}
-use Rattle.kernel.specs.declared.StepWords.{StepWords}
 use Rattle.kernel.specs.declared.Instruction.{Instruction}
 use Rattle.kernel.specs.declared.Instruction.TheVariants.{Immediate, Add, Sub, Mul, Min, Max, Neg, Abs, IntegerSub}
-use Rattle.kernel.specs.declared.InstructionWords.{InstructionWords}
 use Rattle.kernel.specs.declared.Kernel.{Kernel}
 use Rattle.kernel.specs.Steps.{step_at}
 use Rattle.kernel.specs.Instructions.{destination, instruction_at}
-use Rattle.kernel.specs.Lists.{Sizes, index_inside, computes_formed}
+use Rattle.kernel.specs.declared.Sizes.{Sizes}
+use Rattle.kernel.specs.Lists.{index_inside, computes_formed}
 use Rattle.step_run.specs.Run.{Code}
 
 -- of each register, control slot and spill slot 1 where it is filled, else 0
@@ -46,9 +45,9 @@ operands_filled m (Neg dst src) = is_filled m.registers src
 operands_filled m (Abs dst src) = is_filled m.registers src
 operands_filled m (IntegerSub dst lhs rhs) = is_filled m.registers lhs & is_filled m.registers rhs
 
-abbrev pub instruction_filled : Marks → InstructionWords → Bool
-instruction_filled m (InstructionWords.Formed instruction) = operands_filled m instruction
-instruction_filled m InstructionWords.Malformed = false
+abbrev pub instruction_filled : Marks → Option Instruction → Bool
+instruction_filled m (Some instruction) = operands_filled m instruction
+instruction_filled m None = false
 
 abbrev pub reads_filled : List ℕ → Marks → Step → Bool
 reads_filled instructions m (Load source register) = source_filled m source
@@ -64,9 +63,9 @@ reads_filled instructions m (StoreControl slot register) = is_filled m.registers
 abbrev pub fill_register : Marks → ℕ → Marks
 fill_register m r = marks (set m.registers r 1) m.control m.spills
 
-abbrev pub fill_result : Marks → InstructionWords → Marks
-fill_result m (InstructionWords.Formed instruction) = fill_register m (destination instruction)
-fill_result m InstructionWords.Malformed = m
+abbrev pub fill_result : Marks → Option Instruction → Marks
+fill_result m (Some instruction) = fill_register m (destination instruction)
+fill_result m None = m
 
 abbrev pub fill : List ℕ → Marks → Step → Marks
 fill instructions m (Load source register) = fill_register m register
@@ -78,9 +77,9 @@ fill instructions m (StoreDelay delay register) = m
 fill instructions m (StoreOutput register) = m
 fill instructions m (StoreControl slot register) = marks m.registers (set m.control slot 1) m.spills
 
-abbrev pub fill_words : List ℕ → Marks → StepWords → Marks
-fill_words instructions m (StepWords.Formed step) = fill instructions m step
-fill_words instructions m StepWords.Malformed = m
+abbrev pub fill_words : List ℕ → Marks → Option Step → Marks
+fill_words instructions m (Some step) = fill instructions m step
+fill_words instructions m None = m
 
 -- after n steps of a list from step `from` on
 unfoldable pub marks_to : Code → Marks → ℕ → ℕ → Marks
@@ -110,6 +109,6 @@ marks_before_sample c t i = marks_to c (marks_at_sample c t) c.kernel.control i
 unfoldable pub is_sure : Sizes → List ℕ → Marks → Step → Bool
 is_sure n instructions m step = reads_filled instructions m step & index_inside n step & computes_formed instructions step
 
-abbrev pub words_sure : Sizes → List ℕ → Marks → StepWords → Bool
-words_sure n instructions m (StepWords.Formed step) = is_sure n instructions m step
-words_sure n instructions m StepWords.Malformed = false
+abbrev pub words_sure : Sizes → List ℕ → Marks → Option Step → Bool
+words_sure n instructions m (Some step) = is_sure n instructions m step
+words_sure n instructions m None = false

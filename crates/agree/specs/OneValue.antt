@@ -11,7 +11,7 @@ use Rattle.std.proofs.lemmas.Bool.{eqb-false}
 use Rattle.tables.specs.Tests.{&_both}
 use Rattle.block.specs.Block.{code, first, second}
 use Rattle.block.specs.Kinds.{kind_of, operands_of}
-use Rattle.block.specs.Validation.{Counts}
+use Rattle.block.specs.declared.Counts.{Counts}
 use Rattle.expand.specs.Good.{good_operands}
 use Rattle.expand.specs.Graph.{Graph}
 use Rattle.expand.specs.GraphLaws.{GoodGraph}

@@ -1,5 +1,5 @@
 -- What a list that the checker passes has: every step's tests as facts with names, and an induction over the steps of a phase. Assumes nothing.
-use Rattle.std.specs.Prelude.{◌≡◌, refl, Bool, true, false, cond, length, eqb}
+use Rattle.std.specs.Prelude.{◌≡◌, refl, Bool, true, false, cond, length, eqb, Option, Some, None}
 use Rattle.std.proofs.Common.{sym, ◌∙◌, zero-add, arith, eqb-true}
 use Prim.Native.Nat.{ℕ, zero, suc, ◌+◌, ◌≤◌, ◌<◌}
 use Rattle.std.proofs.Math.Nat.{suc_inj}
@@ -10,7 +10,6 @@ use Rattle.answers.specs.Numbers.{accepted}
 use Rattle.answers.specs.Order.{in_order}
 use Rattle.answers.specs.OrderLaws.{then_accepted, refuse_at_accepted, in_order_accepted}
 use Rattle.kernel.specs.declared.Step.{Step}
-use Rattle.kernel.specs.declared.StepWords.{StepWords}
 use Rattle.kernel.specs.declared.Phase.{Phase}
 use Rattle.kernel.specs.declared.Phase.TheVariants.{Control, Sample}
 use Rattle.kernel.specs.Steps.{step_at, allowed_in}
@@ -31,9 +30,9 @@ pub record StepPassed (l : Listing) (phase : Phase) (last : Bool) (h : Held) (st
   pub moved : moved_class l.graph l.instructions h step ≡ suc class
 
 -- its words are a step's
-pub record WordsPassed (l : Listing) (phase : Phase) (last : Bool) (h : Held) (w : StepWords) : Type 0 where
+pub record WordsPassed (l : Listing) (phase : Phase) (last : Bool) (h : Held) (w : Option Step) : Type 0 where
   pub step : Step
-  pub words : w ≡ StepWords.Formed step
+  pub words : w ≡ Some step
   pub passed : StepPassed l phase last h step
 
 -- a word that is not 0 is one more than another
@@ -52,9 +51,9 @@ step_passed l phase last h step e =
     let k = above_zero (moved_class l.graph l.instructions h step) (differ_of _ _ r.1) in
     record { allowed = a.0; inside = b.0; formed = b.1; masked = q.0; output_last = r.0; class = k.0; moved = k.1 }
 
-words_passed : (l : Listing) (phase : Phase) (last : Bool) (h : Held) (w : StepWords) → words_pass l phase last h w ≡ true → WordsPassed l phase last h w
-words_passed l phase last h (StepWords.Formed step) e = record { step = step; words = refl; passed = step_passed l phase last h step e }
-words_passed l phase last h StepWords.Malformed e = true_false (sym e)
+words_passed : (l : Listing) (phase : Phase) (last : Bool) (h : Held) (w : Option Step) → words_pass l phase last h w ≡ true → WordsPassed l phase last h w
+words_passed l phase last h (Some step) e = record { step = step; words = refl; passed = step_passed l phase last h step e }
+words_passed l phase last h None e = true_false (sym e)
 
 -- ---- a list that passes
 pub record Passed (l : Listing) : Type 0 where
@@ -93,7 +92,7 @@ passed l e =
 module _ {S : Type 0} (l : Listing) (phase : Phase) (start : Held) (from count : ℕ) (last : ℕ → Bool)
     (passes : (i : ℕ) → i < count → WordsPassed l phase (last i) (walked l start from i) (step_at l.steps (from + i)))
     (state : ℕ → S) (act : S → Step → S)
-    (next : (i : ℕ) (step : Step) → step_at l.steps (from + i) ≡ StepWords.Formed step → state (suc i) ≡ act (state i) step)
+    (next : (i : ℕ) (step : Step) → step_at l.steps (from + i) ≡ Some step → state (suc i) ≡ act (state i) step)
     (P : Held → S → Type 0)
     (keeps : (final : Bool) (h : Held) (s : S) (step : Step) → StepPassed l phase final h step → P h s → P (after_step l h step) (act s step)) where
   pub walk_keeps : P start (state 0) → (n : ℕ) → n ≤ count → P (walked l start from n) (state n)

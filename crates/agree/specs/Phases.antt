@@ -1,13 +1,12 @@
 -- What follows for a whole list from the checker's passing it: its control steps store nothing that a sample stores, and it may run, so answer 15 is not given.
 -- Assumes nothing.
-use Rattle.std.specs.Prelude.{◌≡◌, refl, Bool, true, false, ℕ, zero, suc, ◌<◌, length, replicate}
+use Rattle.std.specs.Prelude.{◌≡◌, refl, Bool, true, false, ℕ, zero, suc, ◌<◌, length, replicate, Option, Some, None}
 use Rattle.std.proofs.Common.{sym, subst, zero-add, arith}
 use Rattle.tables.specs.Tests.{true_false}
 use Rattle.answers.specs.Numbers.{accepted}
+use Rattle.kernel.specs.declared.Instruction.{Instruction}
 use Rattle.kernel.specs.declared.Step.{Step}
 use Rattle.kernel.specs.declared.Step.TheVariants.{Load, Compute, Spill, Reload, StoreState, StoreDelay, StoreOutput, StoreControl}
-use Rattle.kernel.specs.declared.StepWords.{StepWords}
-use Rattle.kernel.specs.declared.InstructionWords.{InstructionWords}
 use Rattle.kernel.specs.declared.Phase.{Phase}
 use Rattle.kernel.specs.declared.Phase.TheVariants.{Control, Sample}
 use Rattle.kernel.specs.Steps.{allowed_in}
@@ -24,9 +23,9 @@ Unstored l h =
     × (h.delays_stored ≡ replicate (length l.graph.delay_updates) 0)
     × (h.output_stored ≡ 0)
 
-unstored_result : (l : Listing) (h : Held) (w : InstructionWords) (class : ℕ) → Unstored l h → Unstored l (with_result h w class)
-unstored_result l h (InstructionWords.Formed i) class u = u
-unstored_result l h InstructionWords.Malformed class u = u
+unstored_result : (l : Listing) (h : Held) (w : Option Instruction) (class : ℕ) → Unstored l h → Unstored l (with_result h w class)
+unstored_result l h (Some i) class u = u
+unstored_result l h None class u = u
 
 -- a control step stores none of it
 unstored_step : (l : Listing) (h : Held) (step : Step) → allowed_in Control step ≡ true → Unstored l h → Unstored l (after_step l h step)
@@ -48,7 +47,7 @@ unstored_control l p =
     (λ last h u step q a. unstored_step l h step q.allowed a) (refl, refl, refl) l.kernel.control (omega arith)
 
 -- ---- answer 15: every step that passes may run
-may_run : (l : Listing) (phase : Phase) (last : Bool) (h : Held) (w : StepWords) → WordsPassed l phase last h w → MayRun (sizes_of l) l.instructions phase w
+may_run : (l : Listing) (phase : Phase) (last : Bool) (h : Held) (w : Option Step) → WordsPassed l phase last h w → MayRun (sizes_of l) l.instructions phase w
 may_run l phase last h w p =
     record { step = p.step; formed = p.words; allowed = p.passed.allowed; inside = p.passed.inside; computes = p.passed.formed }
 

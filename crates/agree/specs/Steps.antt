@@ -1,12 +1,12 @@
 -- One step that the checker passes: the word it moves is the value of the class that the checker moves, so registers, slots and memories go on holding what
 -- the checker says. Assumes nothing.
-use Rattle.std.specs.Prelude.{◌≡◌, refl, Bool, true, List, ℕ, ◌≤◌, length, get_or, set}
+use Rattle.std.specs.Prelude.{◌≡◌, refl, Bool, true, List, ℕ, ◌≤◌, length, get_or, set, Option, Some, None}
 use Rattle.std.proofs.Common.{sym, ◌∙◌, arith, ltb-true}
 use Rattle.std.proofs.Math.Path.{ap}
 use Rattle.std.proofs.Math.Nat.{suc_inj}
 use Rattle.tables.specs.Tests.{true_false}
 use Rattle.words.specs.Operations.{added, subtracted, multiplied, lesser, greater, negated, absolute, wrapping_difference}
-use Rattle.block.specs.Validation.{Counts}
+use Rattle.block.specs.declared.Counts.{Counts}
 use Rattle.expand.specs.Graph.{Graph}
 use Rattle.expand.specs.GraphLaws.{GoodGraph}
 use Rattle.kernel.specs.declared.Source.{Source}
@@ -14,7 +14,6 @@ use Rattle.kernel.specs.declared.Step.{Step}
 use Rattle.kernel.specs.declared.Step.TheVariants.{Load, Compute, Spill, Reload, StoreState, StoreDelay, StoreOutput, StoreControl}
 use Rattle.kernel.specs.declared.Instruction.{Instruction}
 use Rattle.kernel.specs.declared.Instruction.TheVariants.{Immediate, Add, Sub, Mul, Min, Max, Neg, Abs, IntegerSub}
-use Rattle.kernel.specs.declared.InstructionWords.{InstructionWords}
 use Rattle.kernel.specs.declared.Phase.{Phase}
 use Rattle.kernel.specs.declared.Phase.TheVariants.{Control}
 use Rattle.kernel.specs.Steps.{source_in_control}
@@ -77,11 +76,11 @@ module _ {n : Counts} {g : Graph} (good : GoodGraph n g) (x : Given) (start : Me
   result_says h r (Abs dst a) f = one 13 absolute (value_abs _ _ _ _) _ _ (file_get _ f a)
   result_says h r (IntegerSub dst a b) f = two 10 wrapping_difference (value_integer_sub _ _ _ _) _ _ _ _ (file_get _ f a) (file_get _ f b)
 
-  computed_holds : (h : Held) (m : Machine) (w : InstructionWords) → Holds (value_at g x start) h m
+  computed_holds : (h : Held) (m : Machine) (w : Option Instruction) → Holds (value_at g x start) h m
       → Holds (value_at g x start) (with_result h w (words_class g h w)) (with_registers m (execute_words m.registers w))
   unfolding execute
-  computed_holds h m (InstructionWords.Formed i) (r, c, s) = (file_set _ r (destination i) _ _ (result_says h m.registers i r), c, s)
-  computed_holds h m InstructionWords.Malformed q = q
+  computed_holds h m (Some i) (r, c, s) = (file_set _ r (destination i) _ _ (result_says h m.registers i r), c, s)
+  computed_holds h m None q = q
 
 -- ---- a step of a list
 abbrev pub program_for : Listing → Program
@@ -127,10 +126,10 @@ module _ {n : Counts} (l : Listing) (good : GoodGraph n l.graph) (x : Given) (st
         let e = a.names in
         h k a.moved ∙ (ap (value_at l.graph x start) a.same ∙ sym (class_value good x start a.node (omega arith)))
 
-    computed_stores : (h : Held) (m : Machine) (w : InstructionWords) (class : ℕ) → Stores l.graph x start h m
+    computed_stores : (h : Held) (m : Machine) (w : Option Instruction) (class : ℕ) → Stores l.graph x start h m
         → Stores l.graph x start (with_result h w class) (with_registers m (execute_words m.registers w))
-    computed_stores h m (InstructionWords.Formed i) class q = q
-    computed_stores h m InstructionWords.Malformed class q = q
+    computed_stores h m (Some i) class q = q
+    computed_stores h m None class q = q
 
     stores_step : (phase : Phase) (last : Bool) (h : Held) (m : Machine) (step : Step) → StepPassed l phase last h step → Holds (value_at l.graph x start) h m
         → Stores l.graph x start h m → Stores l.graph x start (after_step l h step) (act (program_for l) x m step)

@@ -1,11 +1,10 @@
 -- What the steps of a machine leave alone: how long its tables are, the control slots in a sample, the memories in the control phase. Assumes nothing.
-use Rattle.std.specs.Prelude.{◌≡◌, refl, true, List, ℕ, suc, ◌+◌, length}
+use Rattle.std.specs.Prelude.{◌≡◌, refl, true, List, ℕ, suc, ◌+◌, length, Option, Some, None}
 use Rattle.std.proofs.Common.{sym, ap, ◌∙◌, length-set}
 use Rattle.tables.specs.Tests.{true_false}
+use Rattle.kernel.specs.declared.Instruction.{Instruction}
 use Rattle.kernel.specs.declared.Step.{Step}
 use Rattle.kernel.specs.declared.Step.TheVariants.{Load, Compute, Spill, Reload, StoreState, StoreDelay, StoreOutput, StoreControl}
-use Rattle.kernel.specs.declared.StepWords.{StepWords}
-use Rattle.kernel.specs.declared.InstructionWords.{InstructionWords}
 use Rattle.kernel.specs.declared.Phase.TheVariants.{Control, Sample}
 use Rattle.kernel.specs.Steps.{step_at, allowed_in}
 use Rattle.kernel.specs.Instructions.{instruction_at}
@@ -15,10 +14,10 @@ use Rattle.machine.specs.Ready.{Lengths}
 use Rattle.machine.proofs.StepLaws.{act_kept}
 
 -- the registers keep their number
-result_long : (r : List ℕ) (w : InstructionWords) → length (execute_words r w) ≡ length r
+result_long : (r : List ℕ) (w : Option Instruction) → length (execute_words r w) ≡ length r
 unfolding execute
-result_long r (InstructionWords.Formed i) = simp length-set
-result_long r InstructionWords.Malformed = refl
+result_long r (Some i) = simp length-set
+result_long r None = refl
 
 registers_long : (p : Program) (x : Given) (m : Machine) (step : Step) → length (act p x m step).registers ≡ length m.registers
 registers_long p x m (Load source r) = simp length-set
@@ -62,7 +61,7 @@ long_step p x m₀ m step (r, c, s) =
     (registers_long p x m step ∙ r, ap (λ (y : Lengths). y.control) e ∙ c, ap (λ (y : Lengths). y.spills) e ∙ s)
 
 -- words that are a step's are run as that step
-pub next_machine : (p : Program) (steps : List ℕ) (x : Given) (m : Machine) (from i : ℕ) (step : Step) → step_at steps (from + i) ≡ StepWords.Formed step
+pub next_machine : (p : Program) (steps : List ℕ) (x : Given) (m : Machine) (from i : ℕ) (step : Step) → step_at steps (from + i) ≡ Some step
     → steps_to p steps x m from (suc i) ≡ counted (act p x (steps_to p steps x m from i) step)
 unfolding steps_to act_words
 next_machine p steps x m from i step e = rw e

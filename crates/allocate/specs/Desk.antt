@@ -1,6 +1,6 @@
 -- How the tables hold it: what each part of the allocator does, on exact words (document 01, module 4; codegen.rs, `impl Allocator`). The second layer.
 -- Definitions alone.
-use Rattle.std.specs.Prelude.{cond, List, ℕ, ◌+◌, ◌*◌, ◌-◌, get_or, set, eqb, ltb}
+use Rattle.std.specs.Prelude.{◌≡◌, cond, List, ℕ, ◌+◌, ◌*◌, ◌-◌, get_or, set, eqb, ltb, Option}
 use Rattle.kernel.specs.declared.Instruction.{Instruction}
 use Rattle.kernel.specs.declared.Instruction.TheVariants.{Immediate}
 use Rattle.kernel.specs.Instructions.{instruction_word, instruction_immediate}
@@ -8,10 +8,10 @@ use Rattle.block.specs.Block.{code, first}
 use Rattle.allocate.specs.declared.Frame.{Frame}
 use Rattle.allocate.specs.declared.Allocator.{Allocator}
 use Rattle.allocate.specs.declared.Slot.{Slot}
-use Rattle.allocate.specs.declared.Chosen.{Chosen}
 use Rattle.allocate.specs.declared.Access.{Access}
+use Rattle.allocate.specs.declared.Desk as declared
 use Rattle.allocate.specs.Layout.{slot_at, next_at, holder_at, spilled_at, fresh_at, freed_at}
-use Rattle.allocate.specs.Registers.{free_from, victim_of, reloads, held_of}
+use Rattle.allocate.specs.Registers.{register_or_16, free_from, victim_of, reloads, held_of}
 
 -- ---- the desk
 
@@ -25,16 +25,27 @@ pub record Desk : Type 0 where
 abbrev pub desk : List ℕ → List ℕ → List ℕ → Allocator → Desk
 desk work steps instructions allocator = record { work = work; steps = steps; instructions = instructions; allocator = allocator }
 
+-- as the code has it: the words behind its three references
+abbrev pub the_desk : declared.Desk → Desk
+the_desk d = desk d.work.now d.steps.now d.instructions.now d.allocator
+
+-- the code's desk has the same three tables as before
+pub record KeepsTables (old new : declared.Desk) : Type 0 where
+  pub work : new.work.ghost_name ≡ old.work.ghost_name
+  pub steps : new.steps.ghost_name ≡ old.steps.ghost_name
+  pub instructions : new.instructions.ghost_name ≡ old.instructions.ghost_name
+
 -- a register, or 16, and the desk in which it is held
 pub record Choice : Type 0 where
   pub register : ℕ
   pub desk : Desk
 
-abbrev pub choice : List ℕ → List ℕ → List ℕ → Chosen → Choice
-choice work steps instructions chosen = record { register = chosen.register; desk = desk work steps instructions chosen.allocator }
-
 abbrev pub choose : ℕ → Desk → Choice
 choose register d = record { register = register; desk = d }
+
+-- as the code has it: a register, or none
+abbrev pub choice : Option ℕ → declared.Desk → Choice
+choice found d = choose (register_or_16 found) (the_desk d)
 
 -- a word of the work table anew
 abbrev pub store : Desk → ℕ → ℕ → Desk

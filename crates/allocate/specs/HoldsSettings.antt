@@ -4,7 +4,7 @@ use Rattle.std.proofs.Common.{sym, ap, ◌∙◌, arith}
 use Rattle.std.proofs.lemmas.List.{length-map}
 use Rattle.tables.specs.Parts.{part, part_at}
 use Rattle.block.specs.Block.{code, first, second}
-use Rattle.block.specs.Validation.{Counts}
+use Rattle.block.specs.declared.Counts.{Counts}
 use Rattle.expand.specs.Good.{GoodNode}
 use Rattle.plan.specs.Lists.{filter, count_up}
 use Rattle.plan.specs.ListLaws.{map_at, count_up_length}

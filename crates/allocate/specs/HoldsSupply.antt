@@ -10,7 +10,7 @@ use Rattle.block.specs.declared.Kind.{Kind}
 use Rattle.block.specs.declared.Kind.TheVariants as Kinds
 use Rattle.block.specs.Block.{code, first, second}
 use Rattle.block.specs.Kinds.{kind_of}
-use Rattle.block.specs.Validation.{Counts}
+use Rattle.block.specs.declared.Counts.{Counts}
 use Rattle.expand.specs.Good.{GoodAs, GoodNode}
 use Rattle.plan.specs.Nodes.{input_node, network_node}
 use Rattle.plan.specs.Flow.{node_as, node_of, node_in}

@@ -1,6 +1,6 @@
 -- How the tables hold it: which register a value gets, on exact words (document 01, module 4; codegen.rs, `take`). The second layer, with the laws of its
 -- loops. The locked registers are at most two, each 16 where there is none.
-use Rattle.std.specs.Prelude.{◌≡◌, Bool, true, false, cond, not, List, ℕ, zero, suc, ◌+◌, ◌-◌, ◌/◌, ◌%◌, ◌^◌, ◌<◌, ◌≤◌, get_or, eqb, leb}
+use Rattle.std.specs.Prelude.{◌≡◌, Bool, true, false, cond, not, List, ℕ, zero, suc, ◌+◌, ◌-◌, ◌/◌, ◌%◌, ◌^◌, ◌<◌, ◌≤◌, get_or, eqb, leb, Option, Some, None}
 use Rattle.std.proofs.Math.Numerals.{add-one}
 use Rattle.std.proofs.Common.{arith}
 use borrow.Author.Tests.{ne_eqb}
@@ -8,6 +8,15 @@ use Rattle.tables.specs.Tests.{cond_pred}
 use Rattle.tables.specs.Loops.{left_step, left_none}
 use Rattle.allocate.specs.declared.Frame.{Frame}
 use Rattle.allocate.specs.Layout.{next_at, spilled_at, fresh_at}
+
+-- the number of a register, or 16 for none
+abbrev pub register_or_16 : Option ℕ → ℕ
+register_or_16 (Some r) = r
+register_or_16 None = 16
+
+-- the locked register at a place of their list, or 16
+abbrev pub lock : List ℕ → ℕ → ℕ
+lock locked k = get_or locked k 16
 
 -- "bit n for rn"
 unfoldable pub usable_bit : ℕ → ℕ → Bool

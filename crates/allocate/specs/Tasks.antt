@@ -1,5 +1,5 @@
 -- How the tables hold it: one task and a phase's tasks, on exact words (document 01, module 4; codegen.rs, `run`). The second layer. Definitions alone.
-use Rattle.std.specs.Prelude.{Bool, cond, not, List, ℕ, zero, suc, ◌+◌, ◌*◌, ◌-◌, get_or, set, eqb, ltb}
+use Rattle.std.specs.Prelude.{◌≡◌, Bool, cond, not, List, ℕ, zero, suc, ◌+◌, ◌*◌, ◌-◌, ◌<◌, get_or, set, eqb, ltb, Option, Some, None, Result, is_ok}
 use Rattle.kernel.specs.declared.Instruction.{Instruction}
 use Rattle.kernel.specs.declared.Instruction.TheVariants.{Add, Sub, Mul, Min, Max, Neg, Abs, IntegerSub}
 use Rattle.block.specs.Block.{code, first, second}
@@ -7,9 +7,11 @@ use Rattle.allocate.specs.declared.Frame.{Frame}
 use Rattle.allocate.specs.declared.Access.{Access}
 use Rattle.allocate.specs.declared.Reads.{Reads}
 use Rattle.allocate.specs.declared.Operands.{Operands}
-use Rattle.allocate.specs.declared.Ended.{Ended}
+use Rattle.allocate.specs.declared.Allocator.{Allocator}
+use Rattle.allocate.specs.declared.Desk as declared
+use Rattle.plan.specs.declared.Flow as flows
 use Rattle.allocate.specs.Layout.{slot_at, canonical_at, next_at, holder_at, spilled_at, fresh_at, task_at, link_at, home_at}
-use Rattle.allocate.specs.Desk.{Desk, desk, Choice, choose, store, with_allocator, owner_to, access, emitted, operated, taken, fetched, released_both}
+use Rattle.allocate.specs.Desk.{Desk, desk, the_desk, Choice, choose, store, with_allocator, owner_to, access, emitted, operated, taken, fetched, released_both}
 
 -- ---- what a task reads
 
@@ -22,6 +24,10 @@ pub record Lent : Type 0 where
 
 abbrev pub lent : List ℕ → List ℕ → List ℕ → ℕ → Lent
 lent nodes updates stores output = record { nodes = nodes; updates = updates; stores = stores; output = output }
+
+-- as the code has it: the words behind its three references
+abbrev pub the_lent : flows.Flow → Lent
+the_lent f = lent f.nodes.now f.updates.now f.stores.now f.output
 
 -- the memory that a task from 2N on writes: states, then delays, then the output
 abbrev pub memory_of : Frame → ℕ → ℕ
@@ -64,8 +70,10 @@ pub record Held : Type 0 where
 abbrev pub holding : ℕ → ℕ → Desk → Held
 holding first second d = record { first = first; second = second; desk = d }
 
-abbrev pub held : List ℕ → List ℕ → List ℕ → Operands → Held
-held work steps instructions o = holding o.first o.second (desk work steps instructions o.allocator)
+-- as the code has it: both, or none where one is not to be had
+abbrev pub BothHeld : Option Operands → declared.Desk → Held → Type 0
+BothHeld (Some o) d h = (holding o.first o.second (the_desk d) ≡ h) × (o.second < 16)
+BothHeld None d h = holding h.first 16 (the_desk d) ≡ h
 
 -- the second, while the first is locked
 unfoldable pub second_after : Frame → List ℕ → ℕ → Choice → Held
@@ -198,6 +206,15 @@ ran_to frame l d (suc position) =
 pub record Outcome : Type 0 where
   pub done : Bool
   pub desk : Desk
+
+-- how a phase's tasks ended: whether all are done, and the allocator after them
+pub record Ended : Type 0 where
+  pub done : Bool
+  pub allocator : Allocator
+
+-- as the code has it
+abbrev pub ended_as : {A E : Type 0} → Result A E → Allocator → Ended
+ended_as result a = record { done = is_ok result; allocator = a }
 
 abbrev pub ended : List ℕ → List ℕ → List ℕ → Ended → Outcome
 ended work steps instructions e = record { done = e.done; desk = desk work steps instructions e.allocator }

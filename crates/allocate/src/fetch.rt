@@ -1,12 +1,14 @@
 // An operand in a register (codegen.rs, `fetch`).
-ghost use Rattle.std.specs.Prelude.{◌≡◌, List, ℕ, ◌+◌, ◌*◌, ◌<◌, ◌≤◌, length};
+ghost use Rattle.std.specs.Prelude.{◌≡◌, ◌+◌, ◌*◌, ◌<◌, ◌≤◌, length, IfSome};
 ghost use Rattle.allocate.specs.Layout.{Wide};
-ghost use Rattle.allocate.specs.Desk.{desk, choice, control_supply, sample_supply, supply_of, reload_code, brought, loaded, fetched};
-ghost use Rattle.allocate.specs.Ready.{Ready, Room};
+ghost use Rattle.allocate.specs.Registers.{lock};
+ghost use Rattle.allocate.specs.Desk.{control_supply, sample_supply, reload_code};
 
-use crate::{Access, Allocator, Chosen, Frame, steps, take};
+use crate::{Access, Desk, Frame, steps};
 use kernel::Instruction;
 
+// The code and index of what the control phase loads; plan's `control_source` says the kind alone, and a match on that kind would say each code once more.
+#[tactic(auto, unfolding(crate::specs::Desk::control_supply))]
 fn control_supply(code: u32, word: u32) -> Access
     ensures { result ≡ control_supply code word }
 {
@@ -23,6 +25,8 @@ fn control_supply(code: u32, word: u32) -> Access
     }
 }
 
+// .. and of what the sample phase loads, of a node that has no control slot.
+#[tactic(auto, unfolding(crate::specs::Desk::sample_supply))]
 fn sample_supply(code: u32, word: u32) -> Access
     ensures { result ≡ sample_supply code word }
 {
@@ -49,126 +53,101 @@ fn sample_supply(code: u32, word: u32) -> Access
     }
 }
 
-// Where a node's value comes from in this phase.
-fn supply_of(nodes: &[u32], work: &[u32], frame: Frame, node: usize) -> Access
-    requires { Wide frame work.now × ((node < frame.nodes) × (3 * frame.nodes ≤ length nodes.now)) }
-    ensures { result ≡ supply_of frame nodes.now work.now node }
-{
-    let at = 3 * node;
-    let code = nodes[at];
-    let word = nodes[at + 1];
-    if frame.control {
-        return control_supply(code, word);
-    }
-    let count = frame.nodes;
-    let place = 2 * count + node;
-    let slot = work[place];
-    if slot == 0 {
-        return sample_supply(code, word);
-    }
-    Access {
-        code: 6,
-        index: slot - 1,
-    }
-}
-
-// The step or the instruction that brings a value from there.
-fn bring(
-    table: &mut [u32],
-    program: &mut [u32],
-    allocator: Allocator,
-    from: Access,
-    register: usize,
-) -> Allocator
-    requires { Room 1 table.old program.old allocator × ((from.code < 16) × (register ≤ 16)) }
-    ensures { (work : List ℕ) → desk work table.new program.new result ≡ brought from register (desk work table.old program.old allocator) }
-{
-    let code = from.code;
-    if code == 7 {
-        let dst = register as u32;
-        let immediate = Instruction::Immediate {
-            dst,
-            value: from.index,
-        };
-        return steps::emit_instruction(table, program, allocator, immediate);
-    }
-    steps::emit(table, allocator, code, register, from.index)
-}
-
+#[tactic(auto, unfolding(crate::specs::Desk::reload_code))]
 fn reload_code(frame: Frame) -> u32
-    ensures { (result ≡ reload_code frame) × (result < 16) }
+    ensures code { result ≡ reload_code frame }
+    ensures small { result < 16 }
 {
-    if frame.control {
-        return 6;
-    }
-    9
+    if frame.control { 6 } else { 9 }
 }
 
-// A node's value comes into a register: from where it comes from where it is fresh, else from its slot.
-fn load(
-    nodes: &[u32],
-    work: &[u32],
-    table: &mut [u32],
-    program: &mut [u32],
-    allocator: Allocator,
-    frame: Frame,
-    node: usize,
-    register: usize,
-) -> Allocator
-    requires wide { Wide frame work.now × ((node < frame.nodes) × ((3 * frame.nodes ≤ length nodes.now) × (register ≤ 16))) }
-    requires room { Room 1 table.old program.old allocator }
-    ensures { desk work.now table.new program.new result ≡ loaded frame nodes.now node register (desk work.now table.old program.old allocator) }
-{
-    let count = frame.nodes;
-    let fresh = 8 * count + node;
-    if work[fresh] == 0 {
-        let spilled = 7 * count + node;
-        let code = reload_code(frame);
-        let slot = steps::option_value(work[spilled]);
-        return steps::emit(table, allocator, code, register, slot);
-    }
-    let from = supply_of(nodes, work, frame, node);
-    bring(table, program, allocator, from, register)
-}
+impl Desk<'_> {
+    ghost use Rattle.allocate.specs.Desk.{the_desk, KeepsTables, choice, supply_of, brought, loaded, fetched};
+    ghost use Rattle.allocate.specs.Ready.{ReadyAt, RoomAt};
 
-// A node in a register: the one that holds it, else one that is taken and filled; 16 where none is to be had.
-pub fn fetch(
-    nodes: &[u32],
-    work: &mut [u32],
-    table: &mut [u32],
-    program: &mut [u32],
-    allocator: Allocator,
-    frame: Frame,
-    first: usize,
-    second: usize,
-    node: usize,
-) -> Chosen
-    requires ready { Ready frame work.old allocator.owner allocator.freed × ((node < frame.nodes) × (3 * frame.nodes ≤ length nodes.now)) }
-    requires room { Room 2 table.old program.old allocator }
-    ensures { choice work.new table.new program.new result ≡ fetched frame nodes.now first second node (desk work.old table.old program.old allocator) }
-{
-    let count = frame.nodes;
-    let at = 6 * count + node;
-    let holder = work[at];
-    if holder != 0 {
-        let held = (holder - 1) as usize;
-        return Chosen {
-            register: held,
-            allocator,
-        };
+    // Where a node's value comes from in this phase.
+    #[tactic(auto, unfolding(crate::specs::Desk::supply_of))]
+    fn supply_of(&self, nodes: &[u32], frame: Frame, node: usize) -> Access
+        requires { Wide frame self.now.work.now × ((node < frame.nodes) × (3 * frame.nodes ≤ length nodes.now)) }
+        ensures { result ≡ supply_of frame nodes.now self.now.work.now node }
+    {
+        let at = 3 * node;
+        let code = nodes[at];
+        let word = nodes[at + 1];
+        if frame.control {
+            return control_supply(code, word);
+        }
+        let place = frame.slot_at(node);
+        let slot = self.work[place];
+        if slot == 0 {
+            return sample_supply(code, word);
+        }
+        Access {
+            code: 6,
+            index: slot - 1,
+        }
     }
-    let chosen = take::take(work, table, allocator, frame, first, second, node);
-    let register = chosen.register;
-    let placed = chosen.allocator;
-    if register == 16 {
-        return Chosen {
-            register,
-            allocator: placed,
-        };
+
+    // The step or the instruction that brings a value from there.
+    #[tactic(auto, unfolding(crate::specs::Desk::brought))]
+    fn bring(&mut self, from: Access, register: usize)
+        requires room { RoomAt 1 (the_desk self.old) }
+        requires small { (from.code < 16) × (register ≤ 16) }
+        ensures done { the_desk self.new ≡ brought from register (the_desk self.old) }
+        ensures same_tables { KeepsTables self.old self.new }
+    {
+        if from.code == 7 {
+            let dst = register as u32;
+            let value = from.index;
+            self.emit_instruction(Instruction::Immediate { dst, value });
+        } else {
+            self.emit(from.code, register, from.index);
+        }
     }
-    let out = load(nodes, work, table, program, placed, frame, node, register);
-    Chosen {
-        register,
-        allocator: out,
+
+    // A node's value comes into a register: from where it comes from where it is fresh, else from its slot.
+    #[tactic(auto, unfolding(crate::specs::Desk::loaded))]
+    fn load(&mut self, nodes: &[u32], frame: Frame, node: usize, register: usize)
+        requires wide { Wide frame self.old.work.now × ((node < frame.nodes) × ((3 * frame.nodes ≤ length nodes.now) × (register ≤ 16))) }
+        requires room { RoomAt 1 (the_desk self.old) }
+        ensures done { the_desk self.new ≡ loaded frame nodes.now node register (the_desk self.old) }
+        ensures same_tables { KeepsTables self.old self.new }
+    {
+        let fresh = frame.fresh_at(node);
+        if self.work[fresh] == 0 {
+            let spilled = frame.spilled_at(node);
+            let code = reload_code(frame);
+            let slot = steps::option_value(self.work[spilled]);
+            self.emit(code, register, slot);
+            return;
+        }
+        let from = self.supply_of(nodes, frame, node);
+        self.bring(from, register);
+    }
+
+    // A node in a register: the one that holds it, else one that is taken and filled.
+    #[tactic(auto, unfolding(crate::specs::Desk::fetched, crate::specs::Desk::filled))]
+    pub fn fetch(
+        &mut self,
+        nodes: &[u32],
+        frame: Frame,
+        locked: &[usize],
+        node: usize,
+    ) -> Option<usize>
+        requires ready { ReadyAt frame (the_desk self.old) × ((node < frame.nodes) × (3 * frame.nodes ≤ length nodes.now)) }
+        requires room { RoomAt 2 (the_desk self.old) }
+        requires locks { length locked.now ≤ 2 }
+        ensures done { choice result self.new ≡ fetched frame nodes.now (lock locked.now 0) (lock locked.now 1) node (the_desk self.old) }
+        ensures register { IfSome result (λ r. r < 16) }
+        ensures same_tables { KeepsTables self.old self.new }
+    {
+        let at = frame.holder_at(node);
+        let holder = self.work[at];
+        if holder != 0 {
+            return Some((holder - 1) as usize);
+        }
+        let register = self.take(frame, locked, node)?;
+        self.load(nodes, frame, node, register);
+        Some(register)
     }
 }

@@ -1,18 +1,15 @@
 // Steps and instructions at the end of their tables.
-ghost use Rattle.std.specs.Prelude.{◌≡◌, List, ℕ, ◌+◌, ◌*◌, ◌-◌, ◌<◌, ◌≤◌, length};
-ghost use Rattle.allocate.specs.Desk.{pair, desk, emitted, operated};
+ghost use Rattle.std.specs.Prelude.{◌≡◌, ◌+◌, ◌*◌, ◌-◌, ◌<◌, ◌≤◌, length};
+ghost use Rattle.allocate.specs.Desk.{pair};
 
-use crate::Allocator;
-use kernel::{Instruction, instructions};
+use crate::Desk;
+use kernel::Instruction;
 
-// One less, and 0 at 0: an option's value.
+// An option's value: its word is 0, or the value and one, since options in lent tables are such words (document 01, "What must change shape").
 pub fn option_value(option: u32) -> u32
     ensures { result ≡ option - 1 }
 {
-    if option == 0 {
-        return 0;
-    }
-    option - 1
+    option.saturating_sub(1)
 }
 
 fn write_pair(table: &mut [u32], place: usize, word: u32, index: u32)
@@ -20,45 +17,39 @@ fn write_pair(table: &mut [u32], place: usize, word: u32, index: u32)
     ensures { table.new ≡ pair table.old place word index }
 {
     table[place] = word;
-    let next = place + 1;
-    table[next] = index;
+    table[place + 1] = index;
 }
 
-// A step more.
-pub fn emit(
-    steps: &mut [u32],
-    allocator: Allocator,
-    code: u32,
-    register: usize,
-    index: u32,
-) -> Allocator
-    requires { (2 * (allocator.steps + 1) ≤ length steps.old) × ((code < 16) × (register ≤ 16)) }
-    ensures { (work instructions : List ℕ) → desk work steps.new instructions result ≡ emitted code register index (desk work steps.old instructions allocator) }
-{
-    let count = allocator.steps;
-    let number = register as u32;
-    write_pair(steps, 2 * count, code * 16 + number, index);
-    let mut out = allocator;
-    out.steps = count + 1;
-    out
-}
+impl Desk<'_> {
+    ghost use Rattle.allocate.specs.Desk.{the_desk, KeepsTables, emitted, operated};
 
-// An instruction more, and the step that computes it.
-pub fn emit_instruction(
-    steps: &mut [u32],
-    table: &mut [u32],
-    allocator: Allocator,
-    instruction: Instruction,
-) -> Allocator
-    requires { (2 * (allocator.steps + 1) ≤ length steps.old) × ((2 * (allocator.instructions + 1) ≤ length table.old) × (allocator.instructions < 1048576)) }
-    ensures { (work : List ℕ) → desk work steps.new table.new result ≡ operated instruction (desk work steps.old table.old allocator) }
-{
-    let count = allocator.instructions;
-    let word = instructions::instruction_word(instruction);
-    let immediate = instructions::instruction_immediate(instruction);
-    write_pair(table, 2 * count, word, immediate);
-    let number = count as u32;
-    let mut out = emit(steps, allocator, 7, 0, number);
-    out.instructions = count + 1;
-    out
+    // A step more.
+    #[tactic(auto, unfolding(crate::specs::Desk::emitted))]
+    pub fn emit(&mut self, code: u32, register: usize, index: u32)
+        requires room { 2 * (self.old.allocator.steps + 1) ≤ length self.old.steps.now }
+        requires small { (code < 16) × (register ≤ 16) }
+        ensures done { the_desk self.new ≡ emitted code register index (the_desk self.old) }
+        ensures same_tables { KeepsTables self.old self.new }
+    {
+        let count = self.allocator.steps;
+        write_pair(self.steps, 2 * count, code * 16 + register as u32, index);
+        self.allocator.steps = count + 1;
+    }
+
+    // An instruction more, and the step that computes it.
+    #[tactic(auto, unfolding(crate::specs::Desk::operated, crate::specs::Desk::emitted))]
+    pub fn emit_instruction(&mut self, instruction: Instruction)
+        requires steps { 2 * (self.old.allocator.steps + 1) ≤ length self.old.steps.now }
+        requires instructions { 2 * (self.old.allocator.instructions + 1) ≤ length self.old.instructions.now }
+        requires few { self.old.allocator.instructions < 1048576 }
+        ensures done { the_desk self.new ≡ operated instruction (the_desk self.old) }
+        ensures same_tables { KeepsTables self.old self.new }
+    {
+        let count = self.allocator.instructions;
+        let word = instruction.word();
+        let immediate = instruction.immediate();
+        write_pair(self.instructions, 2 * count, word, immediate);
+        self.emit(7, 0, count as u32);
+        self.allocator.instructions = count + 1;
+    }
 }

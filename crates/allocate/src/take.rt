@@ -1,153 +1,113 @@
 // A register for a value (codegen.rs, `spill` and `take`).
-ghost use Rattle.std.specs.Prelude.{◌≡◌, List, ℕ, ◌+◌, ◌*◌, ◌<◌, ◌≤◌, length};
+ghost use Rattle.std.specs.Prelude.{◌≡◌, ◌+◌, ◌*◌, ◌<◌, ◌≤◌, length, IfSome};
 ghost use Rattle.allocate.specs.Layout.{Wide};
-ghost use Rattle.allocate.specs.Registers.{Owners};
-ghost use Rattle.allocate.specs.Desk.{desk, choice, spill_code, next_slot, spilt, settled, evicted, taken};
+ghost use Rattle.allocate.specs.Registers.{Owners, lock};
+ghost use Rattle.allocate.specs.Desk.{spill_code};
 
-use crate::{Allocator, Chosen, Frame, Slot, registers, steps};
+use crate::{Desk, Frame, Slot, registers, steps};
 
 // The step that saves a register: the control phase spills to control slots.
+#[tactic(auto, unfolding(crate::specs::Desk::spill_code))]
 fn spill_code(frame: Frame) -> u32
-    ensures { (result ≡ spill_code frame) × (result < 16) }
+    ensures code { result ≡ spill_code frame }
+    ensures small { result < 16 }
 {
-    if frame.control {
-        return 13;
-    }
-    8
+    if frame.control { 13 } else { 8 }
 }
 
-// "Freed spill slots are used again, last freed first"; else a new one.
-fn next_slot(work: &[u32], allocator: Allocator, frame: Frame) -> Slot
-    requires { Wide frame work.now × ((allocator.freed ≤ frame.nodes) × (allocator.slots < 1048576)) }
-    ensures { result ≡ next_slot frame work.now allocator }
-{
-    let freed = allocator.freed;
-    let slots = allocator.slots;
-    if freed == 0 {
-        return Slot {
-            slot: slots + 1,
-            freed,
-            slots: slots + 1,
-        };
-    }
-    let nodes = frame.nodes;
-    let top = 9 * nodes + (freed - 1);
-    Slot {
-        slot: work[top],
-        freed: freed - 1,
-        slots,
-    }
-}
+impl Desk<'_> {
+    ghost use Rattle.allocate.specs.Desk.{the_desk, KeepsTables, choice, next_slot, spilt, settled, evicted, taken};
 
-// A node, which a register holds, is saved to a slot.
-fn spill(
-    work: &mut [u32],
-    table: &mut [u32],
-    allocator: Allocator,
-    frame: Frame,
-    node: usize,
-    register: usize,
-) -> Allocator
-    requires wide { Wide frame work.old × ((node < frame.nodes) × ((allocator.freed ≤ frame.nodes) × (allocator.slots < 1048576))) }
-    requires steps_in_bounds { (2 * (allocator.steps + 1) ≤ length table.old) × (register ≤ 16) }
-    ensures { (instructions : List ℕ) → desk work.new table.new instructions result ≡ spilt frame node register (desk work.old table.old instructions allocator) }
-{
-    let got = next_slot(work, allocator, frame);
-    let nodes = frame.nodes;
-    let at = 7 * nodes + node;
-    work[at] = got.slot;
-    let mut next = allocator;
-    next.freed = got.freed;
-    next.slots = got.slots;
-    let code = spill_code(frame);
-    let index = steps::option_value(got.slot);
-    steps::emit(table, next, code, register, index)
-}
+    // "Freed spill slots are used again, last freed first"; else a new one.
+    #[tactic(auto, unfolding(crate::specs::Desk::next_slot))]
+    fn next_slot(&self, frame: Frame) -> Slot
+        requires { Wide frame self.now.work.now × ((self.now.allocator.freed ≤ frame.nodes) × (self.now.allocator.slots < 1048576)) }
+        ensures { result ≡ next_slot frame self.now.work.now self.now.allocator }
+    {
+        let freed = self.allocator.freed;
+        let slots = self.allocator.slots;
+        if freed == 0 {
+            return Slot {
+                slot: slots + 1,
+                freed,
+                slots: slots + 1,
+            };
+        }
+        let top = frame.freed_at(freed - 1);
+        Slot {
+            slot: self.work[top],
+            freed: freed - 1,
+            slots,
+        }
+    }
 
-// A node's register is this one, and so many are held.
-fn settle(
-    work: &mut [u32],
-    allocator: Allocator,
-    frame: Frame,
-    node: usize,
-    register: usize,
-) -> Allocator
-    requires { Wide frame work.old × ((node < frame.nodes) × (register < 16)) }
-    ensures { (steps instructions : List ℕ) → desk work.new steps instructions result ≡ settled frame node register (desk work.old steps instructions allocator) }
-{
-    let nodes = frame.nodes;
-    let at = 6 * nodes + node;
-    work[at] = (register + 1) as u32;
-    let mut out = allocator;
-    out.owner[register] = (node + 1) as u32;
-    let owner = out.owner;
-    let count = registers::held(&owner);
-    if out.most < count {
-        out.most = count;
-        return out;
+    // A node, which a register holds, is saved to a slot.
+    #[tactic(auto, unfolding(crate::specs::Desk::spilt))]
+    fn spill(&mut self, frame: Frame, node: usize, register: usize)
+        requires wide { Wide frame self.old.work.now × ((node < frame.nodes) × ((self.old.allocator.freed ≤ frame.nodes) × (self.old.allocator.slots < 1048576))) }
+        requires steps_in_bounds { (2 * (self.old.allocator.steps + 1) ≤ length self.old.steps.now) × (register ≤ 16) }
+        ensures done { the_desk self.new ≡ spilt frame node register (the_desk self.old) }
+        ensures same_tables { KeepsTables self.old self.new }
+    {
+        let got = self.next_slot(frame);
+        let at = frame.spilled_at(node);
+        self.work[at] = got.slot;
+        self.allocator.freed = got.freed;
+        self.allocator.slots = got.slots;
+        let code = spill_code(frame);
+        let index = steps::option_value(got.slot);
+        self.emit(code, register, index);
     }
-    out
-}
 
-// A node, which a register holds, leaves it.
-fn evict(
-    work: &mut [u32],
-    table: &mut [u32],
-    allocator: Allocator,
-    frame: Frame,
-    node: usize,
-    register: usize,
-) -> Allocator
-    requires wide { Wide frame work.old × ((node < frame.nodes) × ((allocator.freed ≤ frame.nodes) × (allocator.slots < 1048576))) }
-    requires steps_in_bounds { (2 * (allocator.steps + 1) ≤ length table.old) × (register ≤ 16) }
-    ensures { (instructions : List ℕ) → desk work.new table.new instructions result ≡ evicted frame node register (desk work.old table.old instructions allocator) }
-{
-    let nodes = frame.nodes;
-    let at = 6 * nodes + node;
-    if registers::reloadable(work, frame, node) {
-        work[at] = 0;
-        return allocator;
+    // A node's register is this one, and so many are held.
+    #[tactic(auto, unfolding(crate::specs::Desk::settled))]
+    fn settle(&mut self, frame: Frame, node: usize, register: usize)
+        requires { Wide frame self.old.work.now × ((node < frame.nodes) × (register < 16)) }
+        ensures done { the_desk self.new ≡ settled frame node register (the_desk self.old) }
+        ensures same_tables { KeepsTables self.old self.new }
+    {
+        let at = frame.holder_at(node);
+        self.work[at] = (register + 1) as u32;
+        self.allocator.owner[register] = (node + 1) as u32;
+        let count = registers::held(&self.allocator.owner);
+        self.allocator.most = self.allocator.most.max(count);
     }
-    let out = spill(work, table, allocator, frame, node, register);
-    work[at] = 0;
-    out
-}
 
-// A register for a node: a free one, else an unlocked one that is emptied, else 16.
-pub fn take(
-    work: &mut [u32],
-    table: &mut [u32],
-    allocator: Allocator,
-    frame: Frame,
-    first: usize,
-    second: usize,
-    node: usize,
-) -> Chosen
-    requires wide { Wide frame work.old × ((node < frame.nodes) × ((allocator.freed ≤ frame.nodes) × (allocator.slots < 1048576))) }
-    requires steps_in_bounds { (2 * (allocator.steps + 1) ≤ length table.old) × Owners frame allocator.owner }
-    ensures { (instructions : List ℕ) → choice work.new table.new instructions result ≡ taken frame first second node (desk work.old table.old instructions allocator) }
-{
-    let owner = allocator.owner;
-    let r = registers::free_register(&owner, frame.mask);
-    if r < 16 {
-        let out = settle(work, allocator, frame, node, r);
-        return Chosen {
-            register: r,
-            allocator: out,
-        };
+    // A node, which a register holds, leaves it.
+    #[tactic(auto, unfolding(crate::specs::Desk::evicted, crate::specs::Desk::spilt, crate::specs::Desk::emitted))]
+    fn evict(&mut self, frame: Frame, node: usize, register: usize)
+        requires wide { Wide frame self.old.work.now × ((node < frame.nodes) × ((self.old.allocator.freed ≤ frame.nodes) × (self.old.allocator.slots < 1048576))) }
+        requires steps_in_bounds { (2 * (self.old.allocator.steps + 1) ≤ length self.old.steps.now) × (register ≤ 16) }
+        ensures done { the_desk self.new ≡ evicted frame node register (the_desk self.old) }
+        ensures same_tables { KeepsTables self.old self.new }
+    {
+        let at = frame.holder_at(node);
+        if self.reloadable(frame, node) {
+            self.work[at] = 0;
+            return;
+        }
+        self.spill(frame, node, register);
+        self.work[at] = 0;
     }
-    let v = registers::victim(work, &owner, frame, first, second);
-    if v == 16 {
-        return Chosen {
-            register: 16,
-            allocator,
-        };
-    }
-    let old = steps::option_value(owner[v]);
-    let emptied = evict(work, table, allocator, frame, old as usize, v);
-    let out = settle(work, emptied, frame, node, v);
-    Chosen {
-        register: v,
-        allocator: out,
+
+    // A register for a node: a free one, else an unlocked one that is emptied.
+    #[tactic(auto, unfolding(crate::specs::Desk::taken, crate::specs::Desk::taken_from))]
+    pub fn take(&mut self, frame: Frame, locked: &[usize], node: usize) -> Option<usize>
+        requires wide { Wide frame self.old.work.now × ((node < frame.nodes) × ((self.old.allocator.freed ≤ frame.nodes) × (self.old.allocator.slots < 1048576))) }
+        requires steps_in_bounds { (2 * (self.old.allocator.steps + 1) ≤ length self.old.steps.now) × Owners frame self.old.allocator.owner }
+        requires locks { length locked.now ≤ 2 }
+        ensures done { choice result self.new ≡ taken frame (lock locked.now 0) (lock locked.now 1) node (the_desk self.old) }
+        ensures register { IfSome result (λ r. r < 16) }
+        ensures same_tables { KeepsTables self.old self.new }
+    {
+        if let Some(free) = registers::free_register(&self.allocator.owner, frame.mask) {
+            self.settle(frame, node, free);
+            return Some(free);
+        }
+        let full = self.victim(frame, locked)?;
+        let old = steps::option_value(self.allocator.owner[full]);
+        self.evict(frame, old as usize, full);
+        self.settle(frame, node, full);
+        Some(full)
     }
 }

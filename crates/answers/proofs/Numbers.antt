@@ -1,10 +1,8 @@
 -- The number and the values of an answer tell its case: `tells_refusal`, `tells`. Assumes nothing.
-use Rattle.std.specs.Prelude.{◌≡◌, refl, Bool, true, false, ℕ, eqb}
+use Rattle.std.specs.Prelude.{◌≡◌, refl, Bool, true, false, ℕ, eqb, Result, Ok, Err}
 use Rattle.std.proofs.Common.{sym, ap, ◌∙◌, arith}
 use Rattle.answers.specs.declared.Refusal.{Refusal}
 use Rattle.answers.specs.declared.Refusal.TheVariants as R
-use Rattle.answers.specs.declared.Verdict.{Verdict}
-use Rattle.answers.specs.declared.Verdict.TheVariants.{Valid, Refused}
 use Rattle.answers.specs.Numbers.{number_of, values_of, first_value, answer_of}
 
 -- ---- the number and the values tell the case, so a promise on `answer_of` of a result fixes the result
@@ -64,8 +62,9 @@ case_is R.BadFrame = refl
 pub tells_refusal : (a b : Refusal) → number_of a ≡ number_of b → values_of a ≡ values_of b → a ≡ b
 tells_refusal a b e v = sym (case_is a) ∙ (rw (e, v) (case_is b))
 
-pub tells : (a b : Verdict) → answer_of a ≡ answer_of b → a ≡ b
-tells Valid Valid e = refl
-tells Valid (Refused r) e = absurd (let z : ◌≡◌ {A = ℕ} 0 1 = cc in omega arith)
-tells (Refused r) Valid e = absurd (let z : ◌≡◌ {A = ℕ} 0 1 = cc in omega arith)
-tells (Refused r) (Refused s) e = ap Refused (tells_refusal r s (cc) (cc))
+-- of any call: what it accepts with and what it refuses with are told by its answer
+pub tells : {A : Type 0} (a b : Result A Refusal) → answer_of a ≡ answer_of b → a ≡ b
+tells (Ok x) (Ok y) e = ap Ok (cc)
+tells (Ok x) (Err s) e = absurd (let z : ◌≡◌ {A = ℕ} 0 1 = cc in omega arith)
+tells (Err r) (Ok y) e = absurd (let z : ◌≡◌ {A = ℕ} 0 1 = cc in omega arith)
+tells (Err r) (Err s) e = ap Err (tells_refusal r s (cc) (cc))

@@ -1,9 +1,7 @@
 -- Document 01, "Numbered answers": the number and the values of every case of `Refusal`. Definitions alone; proofs/Numbers.antt has that they tell the cases apart.
-use Rattle.std.specs.Prelude.{List, [], ◌∷◌, ℕ, get_or}
+use Rattle.std.specs.Prelude.{List, [], ◌∷◌, ℕ, get_or, Result, Ok, Err}
 use Rattle.answers.specs.declared.Refusal.{Refusal}
 use Rattle.answers.specs.declared.Refusal.TheVariants as R
-use Rattle.answers.specs.declared.Verdict.{Verdict}
-use Rattle.answers.specs.declared.Verdict.TheVariants.{Valid, Refused}
 
 -- the number of 01's table
 abbrev pub number_of : Refusal → ℕ
@@ -65,6 +63,7 @@ pub data Answer (A : Type 0) : Type 0 where
 abbrev pub refusal : {A : Type 0} → Refusal → Answer A
 refusal r = refused (number_of r) (values_of r)
 
-abbrev pub answer_of : Verdict → Answer Unit
-answer_of Valid = accepted tt
-answer_of (Refused r) = refusal r
+-- what a call returns, as an answer: `Ok` with what an accepted call gives, or `Err` with a refusal
+abbrev pub answer_of : {A : Type 0} → Result A Refusal → Answer A
+answer_of (Ok a) = accepted a
+answer_of (Err r) = refusal r

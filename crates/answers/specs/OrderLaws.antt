@@ -1,9 +1,8 @@
 -- Laws of answers in order: what an accepted whole says of its parts, and the turns of a loop that looks for the first refusal.
-use Rattle.std.specs.Prelude.{◌≡◌, refl, ◌⊎◌, Bool, true, false, List, [], ◌∷◌, ℕ, zero, suc, ◌+◌, ◌≤◌, ◌<◌}
+use Rattle.std.specs.Prelude.{◌≡◌, refl, ◌⊎◌, Bool, true, false, List, [], ◌∷◌, ℕ, zero, suc, ◌+◌, ◌≤◌, ◌<◌, Result, Ok, Err, IsErrAnd}
 use Rattle.std.proofs.Common.{sym, ap, ◌∙◌, inl, inr, eq-or-lt_of_le, le_of_suc-le-suc, not-suc-le-zero, add-one, arith}
+use Rattle.std.proofs.lemmas.Result.{err_from_is_err_and}
 use Rattle.answers.specs.declared.Refusal.{Refusal}
-use Rattle.answers.specs.declared.Verdict.{Verdict}
-use Rattle.answers.specs.declared.Verdict.TheVariants.{Valid, Refused}
 use Rattle.answers.specs.Numbers.{Answer, accepted, refused, answer_of}
 use Rattle.answers.specs.Order.{◌⨾◌, refuse, refuse_at, in_order}
 
@@ -90,14 +89,19 @@ in_order_stop answer (suc n) i m vs h e a = go (eq-or-lt_of_le (le_of_suc-le-suc
 pub in_order_end : (answer : ℕ → Answer Unit) (i n : ℕ) → i ≤ n → n ≤ i → in_order answer i ≡ accepted tt → in_order answer n ≡ accepted tt
 in_order_end answer i n h l e = let q : i ≡ n = omega arith in rw q at e
 
--- ---- a verdict v that answers a: a refusal is handed on, and behind a valid one the rest answers
-pub hand_on : (v : Verdict) {a : Answer Unit} (b : Answer Unit) {r : Refusal} → answer_of v ≡ a → v ≡ Refused r → answer_of v ≡ (a ⨾ b)
-hand_on v b e f = ap answer_of f ∙ sym (then_stop b (sym e ∙ ap answer_of f))
+-- ---- a call that returns v and answers a: what `?` returns for its refusal is handed on, and behind an accepted one the rest answers
+pub hand_on : {A : Type 0} {v : Result Unit Refusal} {a : Answer Unit} (r : Result A Refusal) (b : Answer A) {e : Refusal} → answer_of v ≡ a → v ≡ Err e → IsErrAnd r (λ y. y ≡ e)
+    → answer_of r ≡ (a ⨾ b)
+hand_on r b f g h =
+    let p = err_from_is_err_and r h in
+    rw (p.1, p.2) (sym (then_stop b (sym f ∙ ap answer_of g)))
 
-pub go_on : (v : Verdict) {a x : Answer Unit} (b : Answer Unit) → answer_of v ≡ a → v ≡ Valid → x ≡ b → x ≡ (a ⨾ b)
-go_on v b e f g = g ∙ sym (then_pass b (sym e ∙ ap answer_of f))
+pub go_on : {A : Type 0} {v : Result Unit Refusal} {a : Answer Unit} {x : Answer A} (b : Answer A) {u : Unit} → answer_of v ≡ a → v ≡ Ok u → x ≡ b → x ≡ (a ⨾ b)
+go_on b e f g = g ∙ sym (then_pass b (sym e ∙ ap answer_of f))
 
--- a record's verdict ends the loop
-pub in_order_hand_on : (answer : ℕ → Answer Unit) (n i : ℕ) (v : Verdict) {r : Refusal} → i < n → in_order answer i ≡ accepted tt → answer_of v ≡ answer i
-    → v ≡ Refused r → answer_of v ≡ in_order answer n
-in_order_hand_on answer n i v h e f g = ap answer_of g ∙ sym (in_order_stop answer n i _ _ h e (sym f ∙ ap answer_of g))
+-- a record's refusal ends the loop
+pub in_order_hand_on : (answer : ℕ → Answer Unit) (n i : ℕ) {v : Result Unit Refusal} (r : Result Unit Refusal) {e : Refusal} → i < n → in_order answer i ≡ accepted tt → answer_of v ≡ answer i
+    → v ≡ Err e → IsErrAnd r (λ y. y ≡ e) → answer_of r ≡ in_order answer n
+in_order_hand_on answer n i r l d f g h =
+    let p = err_from_is_err_and r h in
+    rw (p.1, p.2) (sym (in_order_stop answer n i _ _ l d (sym f ∙ ap answer_of g)))

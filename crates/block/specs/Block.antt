@@ -1,6 +1,7 @@
 -- Document 01, "What crosses the boundary": a header and four lent tables of words, and the records in them. Definitions alone.
 use Rattle.std.specs.Prelude.{List, ℕ, ◌+◌, ◌*◌, ◌/◌, length, get_or}
 use Rattle.block.specs.declared.Header.{Header}
+use Rattle.block.specs.declared.Block as Lent
 
 pub record Block : Type 0 where
   pub header : Header
@@ -13,6 +14,10 @@ pub record Block : Type 0 where
 abbrev pub block : Header → List ℕ → List ℕ → List ℕ → List ℕ → Block
 block header parameters states delays nodes =
     record { header = header; parameters = parameters; states = states; delays = delays; nodes = nodes }
+
+-- the block that is lent
+abbrev pub the_block : Lent.Block → Block
+the_block b = block b.header b.parameters.now b.states.now b.delays.now b.nodes.now
 
 -- ---- "parameter: min, max, default (f32 bits)"
 abbrev pub parameter_count : Block → ℕ

@@ -10,7 +10,8 @@ use Rattle.block.specs.Block.{Block, parameter_count, state_count, delay_count, 
 use Rattle.block.specs.Kinds.{kind_of, tanh_steps}
 use Rattle.block.specs.KindLaws.{count_offset}
 use Rattle.block.specs.Limits.{most_nodes, most_parameters, most_states, most_delays, most_delay_samples}
-use Rattle.block.specs.Validation.{Counts, expanded_length, too_large, words_answer, node_answer, running_total, delay_answer}
+use Rattle.block.specs.declared.Counts.{Counts}
+use Rattle.block.specs.Validation.{expanded_length, too_large, words_answer, node_answer, running_total, delay_answer}
 
 abbrev pub counts : ℕ → ℕ → ℕ → Counts
 counts parameters states delays = record { parameters = parameters; states = states; delays = delays }
@@ -45,19 +46,19 @@ node_is nodes n i e f = rw e at f
 abbrev pub delay_test : List ℕ → ℕ → ℕ → ℕ → Bool
 delay_test delays nodes i total = eqb (delay_length delays i) 0 || ltb most_delay_samples total || ltb nodes (update delays i)
 
-total_is : (delays : List ℕ) (i t w : ℕ) → t ≡ sum (delay_length delays) i → w ≡ delay_length delays i → t + w ≡ running_total delays i
-total_is delays i t w e f =
-    let z : i + 1 ≡ suc i = omega arith in ap (λ x. t + x) f ∙ sum_turn (delay_length delays) i t e ∙ ap (sum (delay_length delays)) z
+total_is : (delays : List ℕ) (i t : ℕ) → t ≡ sum (delay_length delays) i → t + delay_length delays i ≡ running_total delays i
+total_is delays i t e =
+    let z : i + 1 ≡ suc i = omega arith in sum_turn (delay_length delays) i t e ∙ ap (sum (delay_length delays)) z
 
-pub delay_stop : (delays : List ℕ) (nodes i t w : ℕ) → t ≡ sum (delay_length delays) i → w ≡ delay_length delays i → delay_test delays nodes i (t + w) ≡ true
+pub delay_stop : (delays : List ℕ) (nodes i t : ℕ) → t ≡ sum (delay_length delays) i → delay_test delays nodes i (t + delay_length delays i) ≡ true
     → delay_answer delays nodes i ≡ refused 12 (i ∷ [])
 unfolding delay_answer
-delay_stop delays nodes i t w e f h = refuse_at_on 12 i (rw (total_is delays i t w e f) at h)
+delay_stop delays nodes i t e h = refuse_at_on 12 i (rw (total_is delays i t e) at h)
 
-pub delay_pass : (delays : List ℕ) (nodes i t w : ℕ) → t ≡ sum (delay_length delays) i → w ≡ delay_length delays i → delay_test delays nodes i (t + w) ≡ false
+pub delay_pass : (delays : List ℕ) (nodes i t : ℕ) → t ≡ sum (delay_length delays) i → delay_test delays nodes i (t + delay_length delays i) ≡ false
     → delay_answer delays nodes i ≡ accepted tt
 unfolding delay_answer
-delay_pass delays nodes i t w e f h = refuse_at_off 12 i (rw (total_is delays i t w e f) at h)
+delay_pass delays nodes i t e h = refuse_at_off 12 i (rw (total_is delays i t e) at h)
 
 pub delay_low : (delays : List ℕ) (nodes i total : ℕ) → delay_test delays nodes i total ≡ false → total ≤ most_delay_samples
 delay_low delays nodes i total h =

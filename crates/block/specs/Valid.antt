@@ -14,7 +14,8 @@ use Rattle.block.specs.Block.{Block, parameter_count, state_count, delay_count, 
 use Rattle.block.specs.Kinds.{kind_of, operands_of, tanh_steps}
 use Rattle.block.specs.KindLaws.{count_offset}
 use Rattle.block.specs.Limits.{first_version, last_version, network_version, last_category, mono, code_needs_two, category_needs_two, most_nodes, most_parameters, most_states, most_delays, most_delay_samples}
-use Rattle.block.specs.Validation.{Counts, counts_of, ragged, malformed_words, malformed_node, malformed_header, malformed, unknown_version, network_not_allowed, reads_network, network_flag_clear, node_needs_two, needs_version_two, expanded_length, too_large, parameter_answer, operand_not_below, bad_content, words_answer, node_answer, state_answer, running_total, delay_answer, records_answer, validation}
+use Rattle.block.specs.declared.Counts.{Counts}
+use Rattle.block.specs.Validation.{counts_of, ragged, malformed_words, malformed_node, malformed_header, malformed, unknown_version, network_not_allowed, reads_network, network_flag_clear, node_needs_two, needs_version_two, expanded_length, too_large, parameter_answer, operand_not_below, bad_content, words_answer, node_answer, state_answer, running_total, delay_answer, records_answer, validation}
 
 -- a node i of a kind with the words x and y: operands stand before it, an index is below its table's count, a constant is finite, unused words are 0
 abbrev pub SoundWords : Kind → Counts → ℕ → ℕ → ℕ → Type 0

@@ -11,7 +11,8 @@ use Rattle.block.specs.declared.Kind.{Kind}
 use Rattle.block.specs.declared.Kind.TheVariants.{Source, Constant, Parameter, State, Delay, Binary, Divide, Unary, Recip, Tanh, Sigmoid, Unknown}
 use Rattle.block.specs.Block.{Block, node_count, delay_length, code, first, second}
 use Rattle.block.specs.Kinds.{kind_of, operands_of}
-use Rattle.block.specs.Validation.{Counts, counts_of, malformed_words, malformed_node, malformed_header, malformed, unknown_version, network_not_allowed, network_flag_clear, needs_version_two, too_large, parameter_answer, operand_not_below, bad_content, words_answer, node_answer, state_answer, delay_answer, records_answer, validation}
+use Rattle.block.specs.declared.Counts.{Counts}
+use Rattle.block.specs.Validation.{counts_of, malformed_words, malformed_node, malformed_header, malformed, unknown_version, network_not_allowed, network_flag_clear, needs_version_two, too_large, parameter_answer, operand_not_below, bad_content, words_answer, node_answer, state_answer, delay_answer, records_answer, validation}
 use Rattle.block.specs.Valid.{SoundWords, Sound, Valid}
 
 -- ---- from facts to tests that are false

@@ -4,6 +4,7 @@ use Rattle.words.specs.Operations.{is_finite, span_is_valid}
 use Rattle.tables.specs.Loops.{some, sum}
 use Rattle.answers.specs.Numbers.{Answer}
 use Rattle.answers.specs.Order.{◌⨾◌, refuse, refuse_at, in_order}
+use Rattle.block.specs.declared.Counts.{Counts}
 use Rattle.block.specs.declared.Header.{Header}
 use Rattle.block.specs.declared.Kind.{Kind}
 use Rattle.block.specs.declared.Kind.TheVariants.{Source, Constant, Parameter, State, Delay, Binary, Divide, Unary, Recip, Tanh, Sigmoid, Unknown}
@@ -94,11 +95,6 @@ unfoldable pub operand_not_below : ℕ → ℕ → ℕ → ℕ → Bool
 operand_not_below operands i x y = (leb 1 operands && leb i x) || (leb 2 operands && leb i y)
 
 -- the counts of the tables that nodes index
-pub record Counts : Type 0 where
-  pub parameters : ℕ
-  pub states : ℕ
-  pub delays : ℕ
-
 abbrev pub counts_of : Block → Counts
 counts_of b = record { parameters = parameter_count b; states = state_count b; delays = delay_count b }
 

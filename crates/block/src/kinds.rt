@@ -10,43 +10,25 @@ pub const RECIP_STEPS: u32 = 3;
 pub const TANH_STEPS: u32 = 2;
 
 // What the code 0..17 says of its node.
-pub fn kind(code: u32) -> Kind
-    ensures { result ≡ kind_of code }
-{
-    match code {
-        0 => Kind::Source,
-        1 => Kind::Constant,
-        2 => Kind::Parameter,
-        3 => Kind::State,
-        4 => Kind::Delay,
-        5..=10 => Kind::Binary,
-        11 => Kind::Divide,
-        12..=13 => Kind::Unary,
-        14 => Kind::Recip,
-        15 => Kind::Tanh,
-        16 => Kind::Sigmoid,
-        17 => Kind::Source,
-        _ => Kind::Unknown,
-    }
-}
+impl From<u32> for Kind {
+    ghost from_gives = { λ code kind. kind ≡ kind_of code };
 
-// How many of a node's two words are operands.
-pub fn operands_of(kind: Kind) -> u32
-    ensures { result ≡ operands_of kind }
-{
-    match kind {
-        Kind::Source => 0,
-        Kind::Constant => 0,
-        Kind::Parameter => 0,
-        Kind::State => 0,
-        Kind::Delay => 0,
-        Kind::Binary => 2,
-        Kind::Divide => 2,
-        Kind::Unary => 1,
-        Kind::Recip => 1,
-        Kind::Tanh => 1,
-        Kind::Sigmoid => 1,
-        Kind::Unknown => 0,
+    #[tactic(auto, unfolding(crate::specs::Kinds::kind_of))]
+    fn from(code: u32) -> Kind {
+        match code {
+            0 | 17 => Kind::Source,
+            1 => Kind::Constant,
+            2 => Kind::Parameter,
+            3 => Kind::State,
+            4 => Kind::Delay,
+            5..=10 => Kind::Binary,
+            11 => Kind::Divide,
+            12..=13 => Kind::Unary,
+            14 => Kind::Recip,
+            15 => Kind::Tanh,
+            16 => Kind::Sigmoid,
+            _ => Kind::Unknown,
+        }
     }
 }
 
@@ -71,23 +53,41 @@ fn tanh_length(steps: u32) -> usize
     6 + (horner_length(3) + 1) + (1 + horner_length(3)) + recip_length(steps) + 1
 }
 
-// How many nodes a node of this kind expands to, by the Newton steps inside tanh.
-pub fn length_of(kind: Kind, steps: u32) -> usize
-    ensures { result ≡ length_of steps kind }
-{
-    match kind {
-        Kind::Source => 1,
-        Kind::Constant => 1,
-        Kind::Parameter => 1,
-        Kind::State => 1,
-        Kind::Delay => 1,
-        Kind::Binary => 1,
-        Kind::Divide => recip_length(RECIP_STEPS) + 1,
-        Kind::Unary => 1,
-        Kind::Recip => recip_length(RECIP_STEPS),
-        Kind::Tanh => tanh_length(steps),
-        Kind::Sigmoid => 2 + tanh_length(steps) + 2,
-        Kind::Unknown => 1,
+impl Kind {
+    // How many of a node's two words are operands.
+    pub fn operands(self) -> u32
+        ensures { result ≡ operands_of self }
+    {
+        match self {
+            Kind::Binary | Kind::Divide => 2,
+            Kind::Unary | Kind::Recip | Kind::Tanh | Kind::Sigmoid => 1,
+            Kind::Source
+            | Kind::Constant
+            | Kind::Parameter
+            | Kind::State
+            | Kind::Delay
+            | Kind::Unknown => 0,
+        }
+    }
+
+    // How many nodes a node of this kind expands to, by the Newton steps inside tanh.
+    pub fn length(self, steps: u32) -> usize
+        ensures { result ≡ length_of steps self }
+    {
+        match self {
+            Kind::Divide => recip_length(RECIP_STEPS) + 1,
+            Kind::Recip => recip_length(RECIP_STEPS),
+            Kind::Tanh => tanh_length(steps),
+            Kind::Sigmoid => 2 + tanh_length(steps) + 2,
+            Kind::Source
+            | Kind::Constant
+            | Kind::Parameter
+            | Kind::State
+            | Kind::Delay
+            | Kind::Binary
+            | Kind::Unary
+            | Kind::Unknown => 1,
+        }
     }
 }
 
@@ -95,16 +95,12 @@ pub fn length_of(kind: Kind, steps: u32) -> usize
 pub fn expanded_length(nodes: &[u32]) -> usize
     ensures { result ≡ min (offset tanh_steps nodes.now (length nodes.now / 3)) 65537 }
 {
-    let count = nodes.len() / 3;
     let mut total: usize = 0;
-    let mut i: usize = 0;
-    while i < count {
-        let at = 3 * i;
-        total += length_of(kind(nodes[at]), TANH_STEPS);
+    for i in 0..nodes.len() / 3 {
+        total += Kind::from(nodes[3 * i]).length(TANH_STEPS);
         if limits::MOST_NODES < total {
             return limits::MOST_NODES + 1;
         }
-        i += 1;
     }
     total
 }

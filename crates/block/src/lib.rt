@@ -9,19 +9,35 @@ mod whole;
 
 ghost use Rattle.std.specs.Prelude.{◌≡◌, false};
 ghost use Rattle.answers.specs.Numbers.{answer_of};
-ghost use Rattle.block.specs.Block.{block};
-ghost use Rattle.block.specs.Validation.{too_large, records_answer, validation};
 
-use answers::{Refusal, Verdict};
+use answers::Refusal;
 
-// What a block says besides its four tables.
-#[derive(Clone, Copy)]
+// What a block says besides its four tables. Words, and no enums: any word may come, and validation refuses those that 01 does not know.
+#[derive(Clone, Copy, Debug, PartialEq, Eq)]
 pub struct Header {
     pub version: u32,
     pub category: u32,
     pub channels: u32,
     pub network: u32,
     pub output: u32,
+}
+
+// A block as it is lent: three words a parameter and a node, two a state and a delay.
+#[derive(Clone, Copy)]
+pub struct Block<'a> {
+    pub header: Header,
+    pub parameters: &'a [u32],
+    pub states: &'a [u32],
+    pub delays: &'a [u32],
+    pub nodes: &'a [u32],
+}
+
+// How many records the tables have that nodes index.
+#[derive(Clone, Copy)]
+pub struct Counts {
+    pub parameters: usize,
+    pub states: usize,
+    pub delays: usize,
 }
 
 // What a node's code says of the node: which of its words are used and how it expands.
@@ -41,74 +57,58 @@ pub enum Kind {
     Unknown,
 }
 
-// Answers 7 to 12. The limits of 6 hold, so a record's index is a word.
-fn validate_records(
-    header: Header,
-    parameters: &[u32],
-    states: &[u32],
-    delays: &[u32],
-    nodes: &[u32],
-) -> Verdict
-    requires { too_large (block header parameters.now states.now delays.now nodes.now) ≡ false }
-    ensures { answer_of result ≡ records_answer (block header parameters.now states.now delays.now nodes.now) }
-{
-    let count = nodes.len() / 3;
-    let parameter = scans::first_bad_parameter(parameters);
-    let Verdict::Valid = parameter else {
-        return parameter;
-    };
-    let output = header.output as usize;
-    if count <= output {
-        return Verdict::Refused(Refusal::MissingOutput);
-    }
-    let node = scans::first_bad_node(
-        nodes,
-        parameters.len() / 3,
-        states.len() / 2,
-        delays.len() / 2,
-    );
-    let Verdict::Valid = node else {
-        return node;
-    };
-    let state = scans::first_bad_state(states, count);
-    let Verdict::Valid = state else {
-        return state;
-    };
-    scans::first_bad_delay(delays, count)
-}
+impl Block<'_> {
+    ghost use Rattle.block.specs.Block.{the_block};
+    ghost use Rattle.block.specs.Validation.{counts_of, too_large, records_answer, validation};
 
-// Whether a block is valid, or the lowest of the answers 1 to 12 that are given for it.
-pub fn validate(
-    header: Header,
-    parameters: &[u32],
-    states: &[u32],
-    delays: &[u32],
-    nodes: &[u32],
-) -> Verdict
-    ensures { answer_of result ≡ validation (block header parameters.now states.now delays.now nodes.now) }
-{
-    if whole::malformed(header, parameters, states, delays, nodes) {
-        return Verdict::Refused(Refusal::Malformed);
+    pub fn counts(&self) -> Counts
+        ensures { result ≡ counts_of (the_block self.now) }
+    {
+        Counts {
+            parameters: self.parameters.len() / 3,
+            states: self.states.len() / 2,
+            delays: self.delays.len() / 2,
+        }
     }
-    if rules::unknown_version(header.version) {
-        return Verdict::Refused(Refusal::UnknownVersion);
+
+    // Answers 7 to 12. The limits of 6 hold, so a record's index is a word.
+    fn validate_records(&self) -> Result<(), Refusal>
+        requires { too_large (the_block self.now) ≡ false }
+        ensures { answer_of result ≡ records_answer (the_block self.now) }
+    {
+        let count = self.nodes.len() / 3;
+        scans::first_bad_parameter(self.parameters)?;
+        let output = self.header.output as usize;
+        if count <= output {
+            return Err(Refusal::MissingOutput);
+        }
+        scans::first_bad_node(self.nodes, self.counts())?;
+        scans::first_bad_state(self.states, count)?;
+        scans::first_bad_delay(self.delays, count)
     }
-    if rules::network_not_allowed(header) {
-        return Verdict::Refused(Refusal::NetworkNotAllowed);
+
+    // Whether a block is valid, or the lowest of the answers 1 to 12 that are given for it.
+    pub fn validate(&self) -> Result<(), Refusal>
+        ensures { answer_of result ≡ validation (the_block self.now) }
+    {
+        if whole::malformed(self) {
+            return Err(Refusal::Malformed);
+        }
+        if rules::unknown_version(self.header.version) {
+            return Err(Refusal::UnknownVersion);
+        }
+        if rules::network_not_allowed(self.header) {
+            return Err(Refusal::NetworkNotAllowed);
+        }
+        if whole::network_flag_clear(self.header, self.nodes) {
+            return Err(Refusal::NetworkFlagClear);
+        }
+        if whole::needs_version_two(self.header, self.nodes) {
+            return Err(Refusal::NeedsVersionTwo);
+        }
+        if whole::too_large(self) {
+            return Err(Refusal::TooLarge);
+        }
+        self.validate_records()
     }
-    if whole::network_flag_clear(header, nodes) {
-        return Verdict::Refused(Refusal::NetworkFlagClear);
-    }
-    if whole::needs_version_two(header, nodes) {
-        return Verdict::Refused(Refusal::NeedsVersionTwo);
-    }
-    if whole::too_large(
-        nodes,
-        parameters.len() / 3,
-        states.len() / 2,
-        delays.len() / 2,
-    ) {
-        return Verdict::Refused(Refusal::TooLarge);
-    }
-    validate_records(header, parameters, states, delays, nodes)
 }

@@ -29,31 +29,23 @@ pub const MOST_DELAYS: usize = 4_096;
 pub const MOST_DELAY_SAMPLES: usize = 16_777_216;
 
 // sub_bits, div, recip, tanh, sigmoid.
+#[tactic(auto, unfolding(crate::specs::Limits::code_needs_two))]
 pub fn code_needs_two(code: u32) -> bool
     ensures { result ≡ code_needs_two code }
 {
     match code {
-        10 => true,
-        11 => true,
-        14 => true,
-        15 => true,
-        16 => true,
+        10 | 11 | 14 | 15 | 16 => true,
         _ => false,
     }
 }
 
 // The amplifiers, bass overdrive, compressor, reverb, wah and synth.
+#[tactic(auto, unfolding(crate::specs::Limits::category_needs_two))]
 pub fn category_needs_two(category: u32) -> bool
     ensures { result ≡ category_needs_two category }
 {
     match category {
-        1 => true,
-        2 => true,
-        3 => true,
-        5 => true,
-        8 => true,
-        9 => true,
-        13 => true,
+        1 | 2 | 3 | 5 | 8 | 9 | 13 => true,
         _ => false,
     }
 }

@@ -1,17 +1,13 @@
 -- How house files cross to C: what a file says besides its tables goes into the answer words, and how many bytes a written file has.
 use Rattle.std.specs.Prelude.{◌≡◌, refl, List, [], ◌∷◌, ℕ, ◌/◌, ◌%◌, set}
-use Rattle.std.proofs.Common.{sym, ap, ◌∙◌}
 use Rattle.tables.specs.Zeros.{copied}
-use Rattle.answers.specs.Numbers.{Answer, accepted, refused}
+use Rattle.answers.specs.Numbers.{Answer}
 use Rattle.house.specs.declared.Contents.{Contents}
 use Rattle.house.specs.declared.Rendering.{Rendering}
-use Rattle.house.specs.declared.BlockRead.{BlockRead}
-use Rattle.house.specs.declared.RenderingRead.{RenderingRead}
-use Rattle.house.specs.declared.Written.{Written}
 use Rattle.house.specs.Payload.{kind_of}
-use Rattle.house.specs.Read.{Tables, BlockOutcome, block_outcome, block_answer_of, RenderingOutcome, rendering_outcome, rendering_answer_of}
-use Rattle.house.specs.Write.{Outcome, outcome, written_of}
-use Rattle.capi.specs.Crossing.{Crossing, crossing, refused_crossing, header}
+use Rattle.house.specs.Read.{Tables, BlockOutcome, block_outcome, RenderingOutcome, rendering_outcome}
+use Rattle.house.specs.Write.{Outcome, outcome}
+use Rattle.capi.specs.Crossing.{Crossing, answer_crossing, header}
 use Rattle.capi.specs.Runs.{Crossed, crossed, crosses}
 
 -- "version, category, channels, network flag, output", then the number of records of each table
@@ -29,25 +25,31 @@ contents_words c =
     ∷ []
 
 -- of an effect block that is read: these words over the first answer words
+abbrev pub contents_put : Contents → List ℕ → List ℕ
+contents_put c lent = copied (contents_words c) lent
+
 abbrev pub contents_crossing : Answer Contents → List ℕ → Crossing
-contents_crossing (accepted c) lent = crossing 0 (copied (contents_words c) lent)
-contents_crossing (refused number values) lent = refused_crossing number values lent
+contents_crossing = answer_crossing contents_put
 
 abbrev pub read_block_crossing : BlockOutcome → List ℕ → Crossed Tables
 read_block_crossing o lent = crossed (contents_crossing o.answer lent) o.tables
 
 -- of a rendering that is read: "2 graph rendering, 3 step rendering", and the number of samples
+abbrev pub rendering_words : Rendering → List ℕ → List ℕ
+rendering_words r lent = set (set lent 0 (kind_of r.engine)) 1 r.samples
+
 abbrev pub rendering_crossing : Answer Rendering → List ℕ → Crossing
-rendering_crossing (accepted r) lent = crossing 0 (set (set lent 0 (kind_of r.engine)) 1 r.samples)
-rendering_crossing (refused number values) lent = refused_crossing number values lent
+rendering_crossing = answer_crossing rendering_words
 
 abbrev pub read_rendering_crossing : RenderingOutcome → List ℕ → Crossed (List ℕ)
 read_rendering_crossing o lent = crossed (rendering_crossing o.answer lent) o.samples
 
 -- of a file that is written: its number of bytes, the low 32 bits and then the high ones
+abbrev pub count_words : ℕ → List ℕ → List ℕ
+count_words count lent = set (set lent 0 (count % 4294967296)) 1 (count / 4294967296)
+
 abbrev pub written_crossing : Answer ℕ → List ℕ → Crossing
-written_crossing (accepted count) lent = crossing 0 (set (set lent 0 (count % 4294967296)) 1 (count / 4294967296))
-written_crossing (refused number values) lent = refused_crossing number values lent
+written_crossing = answer_crossing count_words
 
 abbrev pub write_crossing : Outcome → List ℕ → Crossed (List ℕ)
 write_crossing o lent = crossed (written_crossing o.answer lent) o.bytes
@@ -57,19 +59,7 @@ abbrev pub records : ℕ → ℕ → ℕ → ℕ → Contents
 records parameters states delays nodes =
     record { header = header 0 0 0 0 0; parameters = parameters; states = states; delays = delays; nodes = nodes }
 
--- ---- what the C functions' proofs cite: an answer crosses as the case that it is, an outcome as its answer does
-pub contents_cross : (v w : BlockRead) (lent : List ℕ) (c : Crossing) → v ≡ w → c ≡ contents_crossing (block_answer_of w) lent
-    → c ≡ contents_crossing (block_answer_of v) lent
-contents_cross v w lent c f g = g ∙ ap (λ (x : BlockRead). contents_crossing (block_answer_of x) lent) (sym f)
-
-pub rendering_crosses : (v w : RenderingRead) (lent : List ℕ) (c : Crossing) → v ≡ w → c ≡ rendering_crossing (rendering_answer_of w) lent
-    → c ≡ rendering_crossing (rendering_answer_of v) lent
-rendering_crosses v w lent c f g = g ∙ ap (λ (x : RenderingRead). rendering_crossing (rendering_answer_of x) lent) (sym f)
-
-pub written_crosses : (v w : Written) (lent : List ℕ) (c : Crossing) → v ≡ w → c ≡ written_crossing (written_of w) lent
-    → c ≡ written_crossing (written_of v) lent
-written_crosses v w lent c f g = g ∙ ap (λ (x : Written). written_crossing (written_of x) lent) (sym f)
-
+-- ---- what the C functions' proofs cite: an outcome crosses as its answer does
 pub block_read_crosses : (a : Answer Contents) (t : Tables) (o : BlockOutcome) (lent : List ℕ) (c : Crossing) → block_outcome a t ≡ o
     → c ≡ contents_crossing a lent → crossed c t ≡ read_block_crossing o lent
 block_read_crosses a t o lent c = crosses read_block_crossing (block_outcome a t) o c (contents_crossing a lent) t lent refl

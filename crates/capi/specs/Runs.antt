@@ -1,11 +1,9 @@
 -- How set, reset, the runs and the step checker cross to C: a `Crossing`, and the tables that the call may write as it leaves them.
-use Rattle.std.specs.Prelude.{◌≡◌, refl, Bool, true, cond, List, [], ℕ, ◌≤◌, ◌<◌, length, set, take, ltb}
+use Rattle.std.specs.Prelude.{Result, Ok, Err, IsErrAnd, ◌≡◌, refl, Bool, true, cond, List, [], ℕ, ◌≤◌, ◌<◌, length, set, take, ltb}
 use Rattle.std.proofs.Common.{sym, ap, ◌∙◌, append-nil, arith, drop_of_length-le, lt-ltb, le-ltb}
 use Rattle.tables.specs.Zeros.{zeros, copied, copied_is, zeros_length}
-use Rattle.answers.specs.declared.Verdict.{Verdict}
-use Rattle.answers.specs.declared.Verdict.TheVariants.{Valid, Refused}
 use Rattle.answers.specs.declared.Refusal.{Refusal}
-use Rattle.answers.specs.Numbers.{Answer, accepted, refused, answer_of}
+use Rattle.answers.specs.Numbers.{Answer, refused, answer_of}
 use Rattle.answers.specs.Order.{◌⨾◌, refuse}
 use Rattle.answers.specs.OrderLaws.{hand_on, go_on, refuse_on}
 use Rattle.block.specs.Block.{Block}
@@ -16,10 +14,9 @@ use Rattle.memory.specs.Calls.{SetOutcome, set_outcome, ResetOutcome, reset_outc
 use Rattle.graph_run.specs.Run as Graph
 use Rattle.memory.specs.Signals.{Signals}
 use Rattle.step_run.specs.declared.Done.{Done}
-use Rattle.step_run.specs.declared.Answer as Declared
 use Rattle.step_run.specs.Run as Step
 use Rattle.checker.specs.Check as Check
-use Rattle.capi.specs.Crossing.{Crossing, crossing, verdict_crossing, refused_crossing}
+use Rattle.capi.specs.Crossing.{Crossing, answer_crossing, verdict_crossing}
 
 -- the result and the answer words, and what else the call may write
 pub record Crossed (T : Type 0) : Type 0 where
@@ -49,9 +46,11 @@ counted control sample instructions slots spills =
     record { control = control; sample = sample; instructions = instructions; slots = slots; spills = spills }
 
 -- the step run's answer words begin with the samples done and the steps spent
+abbrev pub done_words : Done → List ℕ → List ℕ
+done_words d lent = set (set lent 0 d.samples) 1 d.steps
+
 abbrev pub done_crossing : Answer Done → List ℕ → Crossing
-done_crossing (accepted d) lent = crossing 0 (set (set lent 0 d.samples) 1 d.steps)
-done_crossing (refused number values) lent = refused_crossing number values lent
+done_crossing = answer_crossing done_words
 
 -- "The sixteen registers go in and come back": they are the first words of the table that is lent for them
 abbrev pub step_crossing : Step.Outcome → List ℕ → List ℕ → Crossed Step.Tables
@@ -95,16 +94,14 @@ pub check_crosses : (a : Answer Unit) (t : Check.Tables) (o : Check.Outcome) (le
 check_crosses a t o lent c = crosses check_crossing (Check.outcome a t) o c (verdict_crossing a lent) t lent refl
 
 -- ---- the step run: a valid block is refused by 13 where the registers are short; otherwise they are copied in and out
-pub short_handed_on : (b : Block) (v : Verdict) {r : Refusal} → answer_of v ≡ validation b → v ≡ Refused r → answer_of v ≡ short_registers b
+pub short_handed_on : (b : Block) {v : Result Unit Refusal} (r : Result Unit Refusal) {e : Refusal} → answer_of v ≡ validation b → v ≡ Err e → IsErrAnd r (λ y. y ≡ e)
+    → answer_of r ≡ short_registers b
 unfolding short_registers
-short_handed_on b v e f = hand_on v _ e f
+short_handed_on b r e f h = hand_on r _ e f h
 
-pub short_of_valid : (b : Block) (v : Verdict) → answer_of v ≡ validation b → v ≡ Valid → refused 13 [] ≡ short_registers b
+pub short_of_valid : (b : Block) {v : Result Unit Refusal} {u : Unit} → answer_of v ≡ validation b → v ≡ Ok u → refused 13 [] ≡ short_registers b
 unfolding short_registers
-short_of_valid b v e f = go_on v _ e f (sym (refuse_on 13 refl))
-
-pub done_crosses : (v w : Declared.Answer) (lent : List ℕ) (c : Crossing) → v ≡ w → c ≡ done_crossing (Step.answer_of w) lent → c ≡ done_crossing (Step.answer_of v) lent
-done_crosses v w lent c f g = g ∙ ap (λ (x : Declared.Answer). done_crossing (Step.answer_of x) lent) (sym f)
+short_of_valid b e f = go_on _ e f (sym (refuse_on 13 refl))
 
 pub short_crosses : (b : Block) (k : Step.Code) (budget : ℕ) (s : Signals) (t : Step.Tables) (lent : List ℕ) (a : Answer Unit) (c : Crossing)
     → length t.registers < 16 → a ≡ short_registers b → c ≡ verdict_crossing a lent

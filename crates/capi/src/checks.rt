@@ -10,9 +10,13 @@ ghost use Rattle.capi.specs.Crossing.{crossing, header};
 ghost use Rattle.capi.specs.Runs.{crossed, counted, check_crossing};
 ghost use Rattle.capi.specs.CheckedRuns.{checked_call};
 
-use crate::runs::{cross, cross_done, short_registers, sixteen};
-use block::Header;
-use kernel::Kernel;
+use crate::crosses::cross;
+use crate::runs::{short_registers, sixteen};
+use block::{Block, Header};
+use kernel::{Code, Kernel};
+use machine::steps::Slots;
+use memory::lines::Memories;
+use memory::signals::Signals;
 
 #[unsafe(no_mangle)]
 pub extern "C" fn lichenstitch_check(
@@ -40,34 +44,34 @@ pub extern "C" fn lichenstitch_check(
     ensures { crossed (crossing result answer.new) (Check.tables expansion.new work.new)
         ≡ check_crossing (Check.check_call (block (header version category channels network output) parameters.now states.now delays.now nodes.now) mask (counted controls samples computes slots spills) steps.now instructions.now (Check.tables expansion.old work.old)) answer.old }
 {
-    let head = Header {
-        version: version,
-        category: category,
-        channels: channels,
-        network: network,
-        output: output,
+    let header = Header {
+        version,
+        category,
+        channels,
+        network,
+        output,
+    };
+    let block = Block {
+        header,
+        parameters,
+        states,
+        delays,
+        nodes,
     };
     let kernel = Kernel {
         control: controls,
         sample: samples,
         instructions: computes,
-        slots: slots,
+        slots,
         spills: spills,
     };
-    let verdict = checker::check(
-        head,
-        parameters,
-        states,
-        delays,
-        nodes,
-        mask,
+    let code = Code {
         kernel,
         steps,
         instructions,
-        expansion,
-        work,
-    );
-    cross(verdict, answer)
+    };
+    let checked = checker::check(&block, mask, &code, expansion, work);
+    cross(checked, answer)
 }
 
 #[unsafe(no_mangle)]
@@ -107,51 +111,59 @@ pub extern "C" fn lichenstitch_checked_run(
     ensures { crossed (crossing result answer.new) (Checked.tables expansion.new work.new control.new spills.new (rendered output.new (memories held.new area.new cursors.new)) registers.new)
         ≡ checked_call (block (header version category channels flag last) parameters.now states.now delays.now nodes.now) mask (code_of (counted controls samples computes slots depth) steps.now instructions.now) budget (signals settings.now input.now network.now) (Checked.tables expansion.old work.old control.old spills.old (rendered output.old (memories held.old area.old cursors.old)) registers.old) answer.old }
 {
-    let head = Header {
-        version: version,
-        category: category,
-        channels: channels,
+    let header = Header {
+        version,
+        category,
+        channels,
         network: flag,
         output: last,
     };
+    let block = Block {
+        header,
+        parameters,
+        states,
+        delays,
+        nodes,
+    };
     if registers.len() < 16 {
-        let verdict = short_registers(head, parameters, states, delays, nodes);
-        return cross(verdict, answer);
+        return cross(short_registers(&block), answer);
     }
     let kernel = Kernel {
         control: controls,
         sample: samples,
         instructions: computes,
-        slots: slots,
+        slots,
         spills: depth,
     };
-    let words = sixteen(registers);
-    let ran = agree::checked_run(
-        head,
-        parameters,
-        states,
-        delays,
-        nodes,
-        mask,
+    let code = Code {
         kernel,
         steps,
         instructions,
+    };
+    let signals = Signals {
         settings,
         input,
         network,
-        words,
-        budget,
-        expansion,
-        work,
-        control,
-        spills,
+    };
+    let mut lent_slots = Slots { control, spills };
+    let mut memories = Memories {
         held,
         area,
         cursors,
+    };
+    let ran = agree::checked_run(
+        &block,
+        mask,
+        &code,
+        &signals,
+        sixteen(registers),
+        budget,
+        expansion,
+        work,
+        &mut lent_slots,
+        &mut memories,
         output,
     );
-    let left = ran.registers;
-    tables::copy(&left, registers);
-    let result = ran.answer;
-    cross_done(result, answer)
+    tables::copy(&ran.registers, registers);
+    cross(ran.answer, answer)
 }

@@ -4,35 +4,10 @@ ghost use Rattle.block.specs.Block.{block};
 ghost use Rattle.compile.specs.Call as Compile;
 ghost use Rattle.capi.specs.Crossing.{crossing, header};
 ghost use Rattle.capi.specs.Runs.{crossed};
-ghost use Rattle.capi.specs.Compiles.{kernel_words, kernel_crossing, compile_crossing};
+ghost use Rattle.capi.specs.Compiles.{compile_crossing};
 
-use crate::{put, refuse};
-use block::Header;
-use compile::{Compilation, Compiled};
-
-// The kernel's five counts and the most registers held at once.
-fn accept_kernel(compiled: Compiled, answer: &mut [u32]) -> u32
-    ensures { crossing result answer.new ≡ crossing 0 (kernel_words compiled.kernel compiled.registers answer.old) }
-{
-    let kernel = compiled.kernel;
-    put(answer, 0, kernel.control);
-    put(answer, 1, kernel.sample);
-    put(answer, 2, kernel.instructions);
-    put(answer, 3, kernel.slots);
-    put(answer, 4, kernel.spills);
-    put(answer, 5, compiled.registers);
-    0
-}
-
-// An answer of `compile`.
-fn cross_kernel(compilation: Compilation, answer: &mut [u32]) -> u32
-    ensures { crossing result answer.new ≡ kernel_crossing (Compile.answer_of compilation) answer.old }
-{
-    match compilation {
-        Compilation::Accepted(compiled) => accept_kernel(compiled, answer),
-        Compilation::Refused(refusal) => refuse(refusal, answer),
-    }
-}
+use crate::crosses::cross;
+use block::{Block, Header};
 
 #[unsafe(no_mangle)]
 pub extern "C" fn lichenstitch_compile(
@@ -55,24 +30,20 @@ pub extern "C" fn lichenstitch_compile(
     ensures { crossed (crossing result answer.new) (Compile.tables expansion.new steps.new instructions.new work.new)
         ≡ compile_crossing (Compile.compile_call (block (header version category channels network output) parameters.now states.now delays.now nodes.now) mask (Compile.tables expansion.old steps.old instructions.old work.old)) answer.old }
 {
-    let head = Header {
-        version: version,
-        category: category,
-        channels: channels,
-        network: network,
-        output: output,
+    let header = Header {
+        version,
+        category,
+        channels,
+        network,
+        output,
     };
-    let compilation = compile::compile(
-        head,
+    let block = Block {
+        header,
         parameters,
         states,
         delays,
         nodes,
-        mask,
-        expansion,
-        steps,
-        instructions,
-        work,
-    );
-    cross_kernel(compilation, answer)
+    };
+    let compiled = compile::compile(&block, mask, expansion, steps, instructions, work);
+    cross(compiled, answer)
 }

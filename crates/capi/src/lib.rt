@@ -1,23 +1,22 @@
 // The C functions: thin calls of the crates that do the work, under one prefix, each with the same
-// promise as what it calls. include/lichenstitch.h declares them for C.
+// promise as what it calls. include/lichenstitch.h declares them for C, so each takes its words and tables one by one.
 #![tactic(auto)]
 
 mod checks;
 mod compiles;
+mod crosses;
 mod files;
 mod runs;
 
-ghost use Rattle.std.specs.Prelude.{◌≡◌, set};
+ghost use Rattle.std.specs.Prelude.{◌≡◌};
 ghost use Rattle.words.specs.Operations.{added, subtracted, multiplied, lesser, greater, negated, absolute, wrapping_difference, is_finite, span_is_valid, in_range};
-ghost use Rattle.answers.specs.Numbers.{number_of, values_of};
 ghost use Rattle.block.specs.Block.{block};
 ghost use Rattle.block.specs.Validation.{validation};
 ghost use Rattle.expand.specs.Expansion.{expand_call};
-ghost use Rattle.capi.specs.Crossing.{crossing, refused_crossing, verdict_crossing, table_crossing, expand_crossing, header};
+ghost use Rattle.capi.specs.Crossing.{crossing, verdict_crossing, table_crossing, expand_crossing, header};
 
-use answers::{Refusal, Verdict};
-use block::Header;
-use expand::Expansion;
+use block::{Block, Header};
+use crosses::cross;
 
 #[unsafe(no_mangle)]
 pub extern "C" fn lichenstitch_add(lhs: u32, rhs: u32) -> u32
@@ -96,25 +95,6 @@ pub extern "C" fn lichenstitch_in_range(min: u32, max: u32, value: u32) -> bool
     words::in_range(min, max, value)
 }
 
-// The value into a lent word, where there is such a word.
-fn put(answer: &mut [u32], at: usize, value: u32)
-    ensures { answer.new ≡ set answer.old at value }
-{
-    if answer.len() <= at {
-        return;
-    }
-    answer[at] = value;
-}
-
-// A refusal's number, and its first value in the first lent word.
-fn refuse(refusal: Refusal, answer: &mut [u32]) -> u32
-    ensures { crossing result answer.new ≡ refused_crossing (number_of refusal) (values_of refusal) answer.old }
-{
-    let value = (answers::value(refusal) % 0x1_0000_0000) as u32;
-    put(answer, 0, value);
-    answers::number(refusal)
-}
-
 #[unsafe(no_mangle)]
 pub extern "C" fn lichenstitch_validate(
     version: u32,
@@ -130,27 +110,21 @@ pub extern "C" fn lichenstitch_validate(
 ) -> u32
     ensures { crossing result answer.new ≡ verdict_crossing (validation (block (header version category channels network output) parameters.now states.now delays.now nodes.now)) answer.old }
 {
-    let head = Header {
-        version: version,
-        category: category,
-        channels: channels,
-        network: network,
-        output: output,
+    let header = Header {
+        version,
+        category,
+        channels,
+        network,
+        output,
     };
-    let verdict = block::validate(head, parameters, states, delays, nodes);
-    match verdict {
-        Verdict::Valid => 0,
-        Verdict::Refused(refusal) => refuse(refusal, answer),
-    }
-}
-
-// Length and output into the first two lent words, and 0.
-fn accept(length: u32, output: u32, answer: &mut [u32]) -> u32
-    ensures { crossing result answer.new ≡ crossing 0 (set (set answer.old 0 length) 1 output) }
-{
-    put(answer, 0, length);
-    put(answer, 1, output);
-    0
+    let block = Block {
+        header,
+        parameters,
+        states,
+        delays,
+        nodes,
+    };
+    cross(block.validate(), answer)
 }
 
 #[unsafe(no_mangle)]
@@ -170,16 +144,20 @@ pub extern "C" fn lichenstitch_expand(
     ensures { table_crossing (crossing result answer.new) expansion.new
         ≡ expand_crossing (expand_call (block (header version category channels network output) parameters.now states.now delays.now nodes.now) expansion.old) answer.old }
 {
-    let head = Header {
-        version: version,
-        category: category,
-        channels: channels,
-        network: network,
-        output: output,
+    let header = Header {
+        version,
+        category,
+        channels,
+        network,
+        output,
     };
-    let result = expand::expand(head, parameters, states, delays, nodes, expansion);
-    match result {
-        Expansion::Accepted(expanded) => accept(expanded.length, expanded.output, answer),
-        Expansion::Refused(refusal) => refuse(refusal, answer),
-    }
+    let block = Block {
+        header,
+        parameters,
+        states,
+        delays,
+        nodes,
+    };
+    let expanded = expand::expand(&block, expansion);
+    cross(expanded, answer)
 }

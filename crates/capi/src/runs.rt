@@ -1,31 +1,23 @@
 // The C functions of what a block does: set, reset and the runs. Each is a thin call of the crate that does the work.
 ghost use Rattle.std.specs.Prelude.{◌≡◌};
 ghost use Rattle.answers.specs.Numbers.{answer_of};
-ghost use Rattle.block.specs.Block.{block};
+ghost use Rattle.block.specs.Block.{block, the_block};
 ghost use Rattle.memory.specs.Lines.{memories};
 ghost use Rattle.memory.specs.Calls.{set_call, reset_call};
 ghost use Rattle.graph_run.specs.Run as Graph;
 ghost use Rattle.memory.specs.Signals.{signals, rendered};
 ghost use Rattle.step_run.specs.Run as Step;
 ghost use Rattle.tables.specs.Zeros.{zeros, copied};
-ghost use Rattle.capi.specs.Crossing.{crossing, verdict_crossing, header};
-ghost use Rattle.capi.specs.Runs.{crossed, set_crossing, reset_crossing, graph_crossing, counted, done_crossing, short_registers, step_call};
+ghost use Rattle.capi.specs.Crossing.{crossing, header};
+ghost use Rattle.capi.specs.Runs.{crossed, set_crossing, reset_crossing, graph_crossing, counted, short_registers, step_call};
 
-use crate::{accept, refuse};
-use answers::{Refusal, Verdict};
-use block::Header;
-use kernel::Kernel;
-use step_run::Answer;
-
-// An answer that says nothing where it accepts.
-pub fn cross(verdict: Verdict, answer: &mut [u32]) -> u32
-    ensures { crossing result answer.new ≡ verdict_crossing (answer_of verdict) answer.old }
-{
-    match verdict {
-        Verdict::Valid => 0,
-        Verdict::Refused(refusal) => refuse(refusal, answer),
-    }
-}
+use crate::crosses::cross;
+use answers::Refusal;
+use block::{Block, Header};
+use kernel::{Code, Kernel};
+use machine::steps::Slots;
+use memory::lines::Memories;
+use memory::signals::Signals;
 
 #[unsafe(no_mangle)]
 pub extern "C" fn lichenstitch_set(
@@ -46,17 +38,22 @@ pub extern "C" fn lichenstitch_set(
     ensures { crossed (crossing result answer.new) settings.new
         ≡ set_crossing (set_call (block (header version category channels network output) parameters.now states.now delays.now nodes.now) settings.old index value) answer.old }
 {
-    let head = Header {
-        version: version,
-        category: category,
-        channels: channels,
-        network: network,
-        output: output,
+    let header = Header {
+        version,
+        category,
+        channels,
+        network,
+        output,
     };
-    let verdict = memory::set(
-        head, parameters, states, delays, nodes, index, value, settings,
-    );
-    cross(verdict, answer)
+    let block = Block {
+        header,
+        parameters,
+        states,
+        delays,
+        nodes,
+    };
+    let set = memory::set(&block, index, value, settings);
+    cross(set, answer)
 }
 
 #[unsafe(no_mangle)]
@@ -78,15 +75,27 @@ pub extern "C" fn lichenstitch_reset(
     ensures { crossed (crossing result answer.new) (memories held.new area.new cursors.new)
         ≡ reset_crossing (reset_call (block (header version category channels network output) parameters.now states.now delays.now nodes.now) (memories held.old area.old cursors.old)) answer.old }
 {
-    let head = Header {
-        version: version,
-        category: category,
-        channels: channels,
-        network: network,
-        output: output,
+    let header = Header {
+        version,
+        category,
+        channels,
+        network,
+        output,
     };
-    let verdict = memory::reset(head, parameters, states, delays, nodes, held, area, cursors);
-    cross(verdict, answer)
+    let block = Block {
+        header,
+        parameters,
+        states,
+        delays,
+        nodes,
+    };
+    let mut memories = Memories {
+        held,
+        area,
+        cursors,
+    };
+    let reset = memory::reset(&block, &mut memories);
+    cross(reset, answer)
 }
 
 #[unsafe(no_mangle)]
@@ -114,28 +123,32 @@ pub extern "C" fn lichenstitch_graph_run(
     ensures { crossed (crossing result answer.new) (Graph.tables expansion.new values.new (rendered output.new (memories held.new area.new cursors.new)))
         ≡ graph_crossing (Graph.run_call (block (header version category channels flag last) parameters.now states.now delays.now nodes.now) (signals settings.now input.now network.now) (Graph.tables expansion.old values.old (rendered output.old (memories held.old area.old cursors.old)))) answer.old }
 {
-    let head = Header {
-        version: version,
-        category: category,
-        channels: channels,
+    let header = Header {
+        version,
+        category,
+        channels,
         network: flag,
         output: last,
     };
-    let verdict = graph_run::run(
-        head, parameters, states, delays, nodes, settings, input, network, expansion, values, held,
-        area, cursors, output,
-    );
-    cross(verdict, answer)
-}
-
-// Samples done and steps spent, or a refusal.
-pub fn cross_done(res: Answer, answer: &mut [u32]) -> u32
-    ensures { crossing result answer.new ≡ done_crossing (Step.answer_of res) answer.old }
-{
-    match res {
-        Answer::Accepted(done) => accept(done.samples, done.steps, answer),
-        Answer::Refused(refusal) => refuse(refusal, answer),
-    }
+    let block = Block {
+        header,
+        parameters,
+        states,
+        delays,
+        nodes,
+    };
+    let signals = Signals {
+        settings,
+        input,
+        network,
+    };
+    let mut memories = Memories {
+        held,
+        area,
+        cursors,
+    };
+    let run = graph_run::run(&block, &signals, expansion, values, &mut memories, output);
+    cross(run, answer)
 }
 
 // The first sixteen words of a table.
@@ -148,20 +161,11 @@ pub fn sixteen(table: &[u32]) -> [u32; 16]
 }
 
 // The answer where the table for the registers has not sixteen words.
-pub fn short_registers(
-    head: Header,
-    parameters: &[u32],
-    states: &[u32],
-    delays: &[u32],
-    nodes: &[u32],
-) -> Verdict
-    ensures { answer_of result ≡ short_registers (block head parameters.now states.now delays.now nodes.now) }
+pub fn short_registers(block: &Block<'_>) -> Result<(), Refusal>
+    ensures { answer_of result ≡ short_registers (the_block block.now) }
 {
-    let verdict = block::validate(head, parameters, states, delays, nodes);
-    let Verdict::Valid = verdict else {
-        return verdict;
-    };
-    Verdict::Refused(Refusal::TableTooShort)
+    block.validate()?;
+    Err(Refusal::TableTooShort)
 }
 
 #[unsafe(no_mangle)]
@@ -199,49 +203,57 @@ pub extern "C" fn lichenstitch_step_run(
     ensures { crossed (crossing result answer.new) (Step.tables expansion.new control.new spills.new (rendered output.new (memories held.new area.new cursors.new)) registers.new)
         ≡ step_call (block (header version category channels flag last) parameters.now states.now delays.now nodes.now) (Step.code_of (counted controls samples computes slots depth) steps.now instructions.now) budget (signals settings.now input.now network.now) (Step.tables expansion.old control.old spills.old (rendered output.old (memories held.old area.old cursors.old)) registers.old) answer.old }
 {
-    let head = Header {
-        version: version,
-        category: category,
-        channels: channels,
+    let header = Header {
+        version,
+        category,
+        channels,
         network: flag,
         output: last,
     };
+    let block = Block {
+        header,
+        parameters,
+        states,
+        delays,
+        nodes,
+    };
     if registers.len() < 16 {
-        let verdict = short_registers(head, parameters, states, delays, nodes);
-        return cross(verdict, answer);
+        return cross(short_registers(&block), answer);
     }
     let kernel = Kernel {
         control: controls,
         sample: samples,
         instructions: computes,
-        slots: slots,
+        slots,
         spills: depth,
     };
-    let words = sixteen(registers);
-    let ran = step_run::run(
-        head,
-        parameters,
-        states,
-        delays,
-        nodes,
+    let code = Code {
         kernel,
         steps,
         instructions,
+    };
+    let signals = Signals {
         settings,
         input,
         network,
-        words,
-        budget,
-        expansion,
-        control,
-        spills,
+    };
+    let mut lent_slots = Slots { control, spills };
+    let mut memories = Memories {
         held,
         area,
         cursors,
+    };
+    let ran = step_run::run(
+        &block,
+        &code,
+        &signals,
+        sixteen(registers),
+        budget,
+        expansion,
+        &mut lent_slots,
+        &mut memories,
         output,
     );
-    let left = ran.registers;
-    tables::copy(&left, registers);
-    let result = ran.answer;
-    cross_done(result, answer)
+    tables::copy(&ran.registers, registers);
+    cross(ran.answer, answer)
 }

@@ -1,5 +1,5 @@
 -- The checker reads no delay's length: a graph without them gives the same answer. Assumes nothing.
-use Rattle.std.specs.Prelude.{◌≡◌, Bool, List, [], eqb}
+use Rattle.std.specs.Prelude.{◌≡◌, Bool, List, [], eqb, Option, Some, None}
 use Rattle.std.proofs.Math.Path.{refl, ap}
 use Rattle.std.proofs.Math.Bool.{false}
 use Prim.Native.Nat.{ℕ, zero, suc, ◌+◌}
@@ -7,10 +7,8 @@ use Rattle.expand.specs.Graph.{Graph}
 use Rattle.kernel.specs.declared.Source.{Source}
 use Rattle.kernel.specs.declared.Step.{Step}
 use Rattle.kernel.specs.declared.Step.TheVariants.{Load, Compute, Spill, Reload, StoreState, StoreDelay, StoreOutput, StoreControl}
-use Rattle.kernel.specs.declared.StepWords.{StepWords}
 use Rattle.kernel.specs.declared.Instruction.{Instruction}
 use Rattle.kernel.specs.declared.Instruction.TheVariants.{Immediate, Add, Sub, Mul, Min, Max, Neg, Abs, IntegerSub}
-use Rattle.kernel.specs.declared.InstructionWords.{InstructionWords}
 use Rattle.kernel.specs.declared.Phase.{Phase}
 use Rattle.kernel.specs.declared.Phase.TheVariants.{Control, Sample}
 use Rattle.kernel.specs.Steps.{step_at}
@@ -70,9 +68,9 @@ module _ (g : Graph) where
   computed_bare h (Abs dst src) = one_bare 13 (register h src)
   computed_bare h (IntegerSub dst lhs rhs) = two_bare 10 (register h lhs) (register h rhs)
 
-  words_bare : (h : Held) (words : InstructionWords) → words_class (bare_graph g) h words ≡ words_class g h words
-  words_bare h (InstructionWords.Formed instruction) = computed_bare h instruction
-  words_bare h InstructionWords.Malformed = refl
+  words_bare : (h : Held) (words : Option Instruction) → words_class (bare_graph g) h words ≡ words_class g h words
+  words_bare h (Some instruction) = computed_bare h instruction
+  words_bare h None = refl
 
   moved_bare : (instructions : List ℕ) (h : Held) (step : Step) → moved_class (bare_graph g) instructions h step ≡ moved_class g instructions h step
   moved_bare instructions h (Load source r) = loaded_bare h source
@@ -86,20 +84,20 @@ module _ (g : Graph) where
 
 -- ---- the walk
 module _ (l : Listing) where
-  after_bare : (h : Held) (words : StepWords) → after_words (bare l) h words ≡ after_words l h words
+  after_bare : (h : Held) (words : Option Step) → after_words (bare l) h words ≡ after_words l h words
   unfolding after_step
-  after_bare h (StepWords.Formed step) = ap (after_move l.instructions h step) (moved_bare l.graph l.instructions h step)
-  after_bare h StepWords.Malformed = refl
+  after_bare h (Some step) = ap (after_move l.instructions h step) (moved_bare l.graph l.instructions h step)
+  after_bare h None = refl
 
   walked_bare : (h : Held) (from n : ℕ) → walked (bare l) h from n ≡ walked l h from n
   unfolding walked
   walked_bare h from zero = refl
   walked_bare h from (suc n) = let e = walked_bare h from n in rw e (after_bare (walked l h from n) (step_at l.steps (from + n)))
 
-  pass_bare : (phase : Phase) (last : Bool) (h : Held) (words : StepWords) → words_pass (bare l) phase last h words ≡ words_pass l phase last h words
+  pass_bare : (phase : Phase) (last : Bool) (h : Held) (words : Option Step) → words_pass (bare l) phase last h words ≡ words_pass l phase last h words
   unfolding step_passes
-  pass_bare phase last h (StepWords.Formed step) = rw (moved_bare l.graph l.instructions h step)
-  pass_bare phase last h StepWords.Malformed = refl
+  pass_bare phase last h (Some step) = rw (moved_bare l.graph l.instructions h step)
+  pass_bare phase last h None = refl
 
   control_bare : (i : ℕ) → before_control (bare l) i ≡ before_control l i
   unfolding emptied

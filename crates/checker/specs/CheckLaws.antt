@@ -1,13 +1,12 @@
 -- The call: what an accepted answer says, each way out of the tests, and what an accepted call leaves. Assumes nothing.
-use Rattle.std.specs.Prelude.{◌≡◌, Bool, true, false, ◌||◌, List, [], ◌++◌, ℕ, ◌+◌, ◌*◌, ◌≤◌, ◌<◌, min, length, take, drop, ltb}
+use Rattle.std.specs.Prelude.{◌≡◌, Bool, true, false, ◌||◌, List, [], ◌++◌, ℕ, ◌+◌, ◌*◌, ◌≤◌, ◌<◌, min, length, take, drop, ltb, Result, Ok, Err, IsErrAnd}
 use Rattle.std.proofs.Common.{sym, ap, ◌∙◌, arith, length-append, length-drop, take_at}
 use Rattle.std.proofs.Math.ListN.{get_or-append}
+use Rattle.std.proofs.lemmas.Result.{err_from_is_err_and}
 use borrow.Author.Tests.{ltb-false, lt-ltb, le-ltb}
 use Rattle.tables.specs.Tests.{neither}
 use Rattle.tables.specs.Zeros.{zeros}
 use Rattle.tables.specs.Lists.{list_length, list_at}
-use Rattle.answers.specs.declared.Verdict.{Verdict}
-use Rattle.answers.specs.declared.Verdict.TheVariants.{Valid, Refused}
 use Rattle.answers.specs.declared.Refusal.{Refusal}
 use Rattle.answers.specs.Numbers.{Answer, accepted, refused, refusal, answer_of}
 use Rattle.answers.specs.Order.{◌⨾◌}
@@ -25,12 +24,13 @@ use Rattle.expand.specs.Map.{Mapping, mapping, map_of, map_call}
 use Rattle.expand.specs.MapLaws.{map_call_valid}
 use Rattle.expand.specs.Lengths.{expansion_words_length, offset_ge}
 use Rattle.expand.specs.Graph.{graph_of}
+use Rattle.expand.specs.Updates.{IsMap}
 use Rattle.kernel.specs.declared.Kernel.{Kernel}
-use Rattle.checker.specs.declared.Terms.{Terms}
+use Rattle.checker.specs.declared.table.Terms.{Terms}
 use Rattle.checker.specs.Walk.{Listing, listing, walk_answer}
 use Rattle.checker.specs.WalkLaws.{Fit}
 use Rattle.checker.specs.Plan.{planned_listing, Planned}
-use Rattle.checker.specs.PlanLaws.{IsMap, planned, planned_answer}
+use Rattle.checker.specs.PlanLaws.{planned, planned_answer}
 use Rattle.checker.specs.Check.{Tables, tables, outcome, work_needed, listing_of, shorter, check_judged, check_after, check_call}
 
 -- ---- every table is as long as it must be
@@ -98,16 +98,16 @@ accepted_check b k steps instructions t e =
     }
 
 -- a valid block has few states and delays
-pub few : (b : Block) (v : Verdict) → answer_of v ≡ validation b → v ≡ Valid → (state_count b ≤ 4096) × (delay_count b ≤ 4096)
+pub few : (b : Block) (v : Result Unit Refusal) → answer_of v ≡ validation b → v ≡ Ok tt → (state_count b ≤ 4096) × (delay_count b ≤ 4096)
 few b v e f = let w = valid b (sym e ∙ ap answer_of f) in (w.state_limit, w.delay_limit)
 
 -- ---- the ways out of the tests. v is validation's verdict, n the expanded length as the code counts it
-module _ (b : Block) (k : Kernel) (steps instructions : List ℕ) (t : Tables) (v : Verdict) (e : answer_of v ≡ validation b) where
-  pub refused_block : {r : Refusal} → v ≡ Refused r → answer_of v ≡ check_judged b k steps instructions t
+module _ (b : Block) (k : Kernel) (steps instructions : List ℕ) (t : Tables) (v : Result Unit Refusal) (e : answer_of v ≡ validation b) where
+  pub refused_block : (r : Result Unit Refusal) {x : Refusal} → v ≡ Err x → IsErrAnd r (λ y. y ≡ x) → answer_of r ≡ check_judged b k steps instructions t
   unfolding check_judged
-  refused_block f = hand_on v _ e f
+  refused_block r f h = hand_on r _ e f h
 
-  module _ (f : v ≡ Valid) where
+  module _ (f : v ≡ Ok tt) where
     sound : Valids.Valid b
     sound = valid b (sym e ∙ ap answer_of f)
 
@@ -121,19 +121,20 @@ module _ (b : Block) (k : Kernel) (steps instructions : List ℕ) (t : Tables) (
 
       pub short_table : d ≡ true → refused 13 [] ≡ check_judged b k steps instructions t
       unfolding check_judged
-      short_table h = go_on v _ e f (sym (refuse_on 13 (sym is_short ∙ h)))
+      short_table h = go_on _ e f (sym (refuse_on 13 (sym is_short ∙ h)))
 
       pub all_long : d ≡ false → accepted tt ≡ check_judged b k steps instructions t
       unfolding check_judged
-      all_long h = go_on v _ e f (sym (refuse_off 13 (sym is_short ∙ h)))
+      all_long h = go_on _ e f (sym (refuse_off 13 (sym is_short ∙ h)))
 
 -- ---- the call
-pub refused_call : (b : Block) (mask : ℕ) (k : Kernel) (steps instructions : List ℕ) (t : Tables) (v : Verdict) {r : Refusal}
-    → answer_of v ≡ check_judged b k steps instructions t → v ≡ Refused r → outcome (answer_of v) t ≡ check_call b mask k steps instructions t
+pub refused_call : (b : Block) (mask : ℕ) (k : Kernel) (steps instructions : List ℕ) (t : Tables) (v : Result Unit Refusal) (r : Result Unit Refusal) {x : Refusal}
+    → answer_of v ≡ check_judged b k steps instructions t → v ≡ Err x → IsErrAnd r (λ y. y ≡ x) → outcome (answer_of r) t ≡ check_call b mask k steps instructions t
 unfolding check_call check_after ◌⨾◌
-refused_call b mask k steps instructions t v {r} e f =
-    let a : check_judged b k steps instructions t ≡ refusal r = sym e ∙ ap answer_of f in
-    rw (a, f)
+refused_call b mask k steps instructions t v r {x} e f h =
+    let a : check_judged b k steps instructions t ≡ refusal x = sym e ∙ ap answer_of f in
+    let p = err_from_is_err_and r h in
+    rw (a, p.1, p.2)
 
 -- the tables when the walk begins: e the expansion, m the map of nodes over the work table, `count` the expanded length as the code counts it
 pub record Begun (b : Block) (t : Tables) (count : ℕ) (e m : List ℕ) : Type 0 where
@@ -151,6 +152,14 @@ expanded_table b k steps instructions t a x e p =
     ap (λ (y : E.Outcome). y.table) p ∙ rw q
 
 module _ (b : Block) (k : Kernel) (steps instructions : List ℕ) (t : Tables) (a : Accepted b k steps instructions t) where
+  pub expands : (x : Result Expanded Refusal) (e : List ℕ) {r : Refusal} → E.outcome (answer_of x) e ≡ E.expand_call b t.expansion → x ≡ Err r → ⊥
+  unfolding E.expand_call E.expand_answer
+  expands x e {r} p f =
+      let done : Answer Expanded = accepted (record { length = expanded_length b; output = E.mapped_output b }) in
+      let q : E.expand_answer b (length t.expansion) ≡ done = then_pass _ a.judged ∙ refuse_pass 13 _ (le-ltb _ _ a.long.expanded) in
+      let z : refusal r ≡ done = sym (ap answer_of f) ∙ (ap (λ (y : E.Outcome). y.answer) p ∙ q) in
+      absurd (let y : ◌≡◌ {A = ℕ} 0 1 = cc in omega arith)
+
   pub begun : (count : ℕ) (x : Answer Expanded) (e m : List ℕ) (done : Bool) → count ≡ min (expanded_length b) 65537
       → E.outcome x e ≡ E.expand_call b t.expansion → mapping done m ≡ map_call b.nodes t.work → Begun b t count e m
   begun count x e m done c o q =
@@ -188,7 +197,7 @@ module _ (b : Block) (k : Kernel) (steps instructions : List ℕ) (t : Tables) (
         rw g.counts (planned b m is_map a.valid mask k e steps instructions front l a.long.listed a.long.coded (omega (arith, map_length)))
 
     -- what an accepted call leaves
-    pub checked_call : (mask : ℕ) (z w : List ℕ) (v : Verdict) → z ≡ zeros (length w) → length w ≡ length m
+    pub checked_call : (mask : ℕ) (z w : List ℕ) (v : Result Unit Refusal) → z ≡ zeros (length w) → length w ≡ length m
         → answer_of v ≡ walk_answer (planned_listing count (parameter_count b) e m b.header.output b.states b.delays mask k steps instructions)
         → check_judged b k steps instructions t ≡ accepted tt
         → outcome (answer_of v) (tables e z) ≡ check_call b mask k steps instructions t

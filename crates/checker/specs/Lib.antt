@@ -13,6 +13,8 @@ pub mod TableLaws
 pub mod MoveLaws
 -- one step, a phase, both phases, as the code walks them
 pub mod WalkLaws
+-- the listing as the code has it
+pub mod Listing
 -- no delay's length is read
 pub mod BareLaws
 -- the block through the map of nodes

@@ -1,15 +1,13 @@
 -- Document 01, "A list passes exactly when": its clauses in its order and words, said of the steps of a list. That the walk passes just these lists and gives
 -- the position that 01 asks for is in PassingLaws. Definitions alone.
-use Rattle.std.specs.Prelude.{◌≡◌, ◌⊎◌, List, [], ◌∷◌, ℕ, suc, ◌+◌, ◌/◌, ◌%◌, ◌^◌, ◌<◌, get_or}
+use Rattle.std.specs.Prelude.{◌≡◌, ◌⊎◌, List, [], ◌∷◌, ℕ, suc, ◌+◌, ◌/◌, ◌%◌, ◌^◌, ◌<◌, get_or, Option, Some, None}
 use Rattle.block.specs.Block.{code, first, second}
 use Rattle.expand.specs.Graph.{Graph}
 use Rattle.kernel.specs.declared.Source.{Source}
 use Rattle.kernel.specs.declared.Step.{Step}
 use Rattle.kernel.specs.declared.Step.TheVariants.{Load, Compute, Spill, Reload, StoreState, StoreDelay, StoreOutput, StoreControl}
-use Rattle.kernel.specs.declared.StepWords.TheVariants as StepWords
 use Rattle.kernel.specs.declared.Instruction.{Instruction}
 use Rattle.kernel.specs.declared.Instruction.TheVariants.{Immediate, Add, Sub, Mul, Min, Max, Neg, Abs, IntegerSub}
-use Rattle.kernel.specs.declared.InstructionWords.{InstructionWords}
 use Rattle.kernel.specs.declared.Phase.{Phase}
 use Rattle.kernel.specs.declared.Phase.TheVariants.{Control, Sample}
 use Rattle.kernel.specs.Steps.{step_code, step_at}
@@ -39,7 +37,7 @@ before l Sample i = before_sample l i
 
 -- the words at a position are this step
 abbrev pub StepAt : Listing → ℕ → Step → Type 0
-StepAt l p step = step_at l.steps p ≡ StepWords.Formed step
+StepAt l p step = step_at l.steps p ≡ Some step
 
 -- a step before position p stores there: `StoreState s` names a state, `StoreDelay d` a delay, `StoreOutput` the output
 abbrev pub StoredBefore : Listing → (ℕ → Step) → ℕ → Type 0
@@ -67,9 +65,9 @@ instruction_reads (Abs dst src) = src ∷ []
 instruction_reads (IntegerSub dst lhs rhs) = lhs ∷ rhs ∷ []
 
 -- "registers used (not compute's 0 or unused parts)": of a computed instruction those that it reads and the one that it sets
-abbrev pub words_used : InstructionWords → List ℕ
-words_used (InstructionWords.Formed instruction) = destination instruction ∷ instruction_reads instruction
-words_used InstructionWords.Malformed = []
+abbrev pub words_used : Option Instruction → List ℕ
+words_used (Some instruction) = destination instruction ∷ instruction_reads instruction
+words_used None = []
 
 abbrev pub used : List ℕ → Step → List ℕ
 used instructions (Load source r) = r ∷ []
@@ -131,9 +129,9 @@ Computes g h (Neg dst src) class = SomeNode g (OperandIs g h 12 src) class
 Computes g h (Abs dst src) class = SomeNode g (OperandIs g h 13 src) class
 Computes g h (IntegerSub dst lhs rhs) class = SomeNode g (OperandsAre g h 10 lhs rhs) class
 
-abbrev pub WordsCompute : Graph → Held → InstructionWords → ℕ → Type 0
-WordsCompute g h (InstructionWords.Formed instruction) class = Computes g h instruction class
-WordsCompute g h InstructionWords.Malformed class = ⊥
+abbrev pub WordsCompute : Graph → Held → Option Instruction → ℕ → Type 0
+WordsCompute g h (Some instruction) class = Computes g h instruction class
+WordsCompute g h None class = ⊥
 
 -- a step moves this class: ".. or reload names a filled slot; a .. spill or store reads filled registers"
 abbrev pub Moves : Graph → List ℕ → Held → Step → ℕ → Type 0
@@ -158,7 +156,7 @@ pub record StepSound (l : Listing) (phase : Phase) (i : ℕ) : Type 0 where
   -- "steps and computed instructions are well formed,"
   pub step : Step
   pub formed : StepAt l (position l phase i) step
-  pub computed : (n : ℕ) → step ≡ Compute n → (instruction : Instruction) × (instruction_at l.instructions n ≡ InstructionWords.Formed instruction)
+  pub computed : (n : ℕ) → step ≡ Compute n → (instruction : Instruction) × (instruction_at l.instructions n ≡ Some instruction)
   -- "registers used (not compute's 0 or unused parts) lie in the mask,"
   pub in_mask_lem : All (InMask l.mask) (used l.instructions step)
   -- "indices inside their tables or declared counts;"

@@ -1,6 +1,6 @@
 -- For the graph of a valid block the walk passes exactly the lists that 01 says pass, `passes_exactly`, and refuses the others with 01's position, `refused_at`.
 -- It holds before each step what 01 says, `held_exactly`. Of the whole call, for every block: `check_passes` and `check_refused_at`. Assumes nothing.
-use Rattle.std.specs.Prelude.{◌≡◌, ◌↔◌, ◌⊎◌, Bool, ◌||◌, List, [], ◌∷◌, length, set, ltb}
+use Rattle.std.specs.Prelude.{◌≡◌, ◌↔◌, ◌⊎◌, Bool, ◌||◌, List, [], ◌∷◌, length, set, ltb, Option, Some, None}
 use Rattle.std.proofs.Math.Path.{refl, sym, ap}
 use Rattle.std.proofs.Common.{subst, ◌∙◌, eq-or-lt_of_le, le_of_suc-le-suc, not-suc-le-zero, length-set, get_or-set_same}
 use Rattle.std.proofs.Math.Logic.{inl, inr}
@@ -22,7 +22,8 @@ use Rattle.answers.specs.OrderLaws.{then_accepted, then_stop, then_pass, refuse_
 use Rattle.block.specs.declared.Kind.{Kind}
 use Rattle.block.specs.Block.{Block, code, first, second}
 use Rattle.block.specs.Kinds.{kind_of, operands_of}
-use Rattle.block.specs.Validation.{Counts, counts_of, parameter_answer, words_answer, node_answer, state_answer, delay_answer, records_answer, validation}
+use Rattle.block.specs.declared.Counts.{Counts}
+use Rattle.block.specs.Validation.{counts_of, parameter_answer, words_answer, node_answer, state_answer, delay_answer, records_answer, validation}
 use Rattle.block.specs.Valid.{valid}
 use Rattle.expand.specs.Good.{GoodAs}
 use Rattle.expand.specs.Graph.{Graph, graph_of}
@@ -30,16 +31,15 @@ use Rattle.expand.specs.GraphLaws.{GoodGraph, good_graph}
 use Rattle.kernel.specs.declared.Source.{Source}
 use Rattle.kernel.specs.declared.Step.{Step}
 use Rattle.kernel.specs.declared.Step.TheVariants.{Load, Compute, Spill, Reload, StoreState, StoreDelay, StoreOutput, StoreControl}
-use Rattle.kernel.specs.declared.StepWords.{StepWords}
 use Rattle.kernel.specs.declared.Instruction.{Instruction}
 use Rattle.kernel.specs.declared.Instruction.TheVariants.{Immediate, Add, Sub, Mul, Min, Max, Neg, Abs, IntegerSub}
-use Rattle.kernel.specs.declared.InstructionWords.{InstructionWords}
 use Rattle.kernel.specs.declared.Phase.{Phase}
 use Rattle.kernel.specs.declared.Phase.TheVariants.{Control, Sample}
 use Rattle.kernel.specs.declared.Kernel.{Kernel}
 use Rattle.kernel.specs.Steps.{step_code, step_at, in_control, allowed_in}
 use Rattle.kernel.specs.Instructions.{destination, instruction_at}
-use Rattle.kernel.specs.Lists.{Sizes, source_inside, index_inside, is_formed, computes_formed, step_may_run}
+use Rattle.kernel.specs.declared.Sizes.{Sizes}
+use Rattle.kernel.specs.Lists.{source_inside, index_inside, is_formed, computes_formed, step_may_run}
 use Rattle.kernel.specs.ListLaws.{step_may_run_lem, SourceInside, Inside, inside_of, allowed_of, instruction_of}
 use Rattle.classes.specs.Classes.{classes_to}
 use Rattle.classes.specs.ClassLaws.{own_second, Same, Backward}
@@ -92,11 +92,11 @@ mask_instruction mask (Neg dst src) a = two_mask mask dst src a
 mask_instruction mask (Abs dst src) a = two_mask mask dst src a
 mask_instruction mask (IntegerSub dst lhs rhs) a = three_mask mask dst lhs rhs a
 
-words_mask : (mask : ℕ) (w : InstructionWords) → words_in_mask mask w ≡ true → All (InMask mask) (words_used w)
-words_mask mask (InstructionWords.Formed x) e = instruction_mask mask x e
-words_mask mask InstructionWords.Malformed e = tt
+words_mask : (mask : ℕ) (w : Option Instruction) → words_in_mask mask w ≡ true → All (InMask mask) (words_used w)
+words_mask mask (Some x) e = instruction_mask mask x e
+words_mask mask None e = tt
 
-mask_words : (mask : ℕ) (w : InstructionWords) (x : Instruction) → w ≡ InstructionWords.Formed x → All (InMask mask) (words_used w) → words_in_mask mask w ≡ true
+mask_words : (mask : ℕ) (w : Option Instruction) (x : Instruction) → w ≡ Some x → All (InMask mask) (words_used w) → words_in_mask mask w ≡ true
 mask_words mask w x e a = rw e (mask_instruction mask x (rw e at a))
 
 step_mask : (mask : ℕ) (instructions : List ℕ) (step : Step) → step_in_mask mask instructions step ≡ true → All (InMask mask) (used instructions step)
@@ -112,7 +112,7 @@ step_mask mask instructions (StoreControl slot r) e = (mask_says mask r e, tt)
 -- what a compute step computes is an instruction
 abbrev Computed : List ℕ → Step → Type 0
 Computed instructions step =
-    (n : ℕ) → step ≡ Compute n → (instruction : Instruction) × (instruction_at instructions n ≡ InstructionWords.Formed instruction)
+    (n : ℕ) → step ≡ Compute n → (instruction : Instruction) × (instruction_at instructions n ≡ Some instruction)
 
 mask_step : (mask : ℕ) (instructions : List ℕ) (step : Step) → Computed instructions step → All (InMask mask) (used instructions step)
     → step_in_mask mask instructions step ≡ true
@@ -392,40 +392,40 @@ module _ (n : Counts) (g : Graph) (good : GoodGraph n g) where
 
 -- ---- what has been stored before a position
 
-result_states : (h : Held) (w : InstructionWords) (class : ℕ) → (with_result h w class).states_stored ≡ h.states_stored
-result_states h (InstructionWords.Formed x) class = refl
-result_states h InstructionWords.Malformed class = refl
+result_states : (h : Held) (w : Option Instruction) (class : ℕ) → (with_result h w class).states_stored ≡ h.states_stored
+result_states h (Some x) class = refl
+result_states h None class = refl
 
-result_delays : (h : Held) (w : InstructionWords) (class : ℕ) → (with_result h w class).delays_stored ≡ h.delays_stored
-result_delays h (InstructionWords.Formed x) class = refl
-result_delays h InstructionWords.Malformed class = refl
+result_delays : (h : Held) (w : Option Instruction) (class : ℕ) → (with_result h w class).delays_stored ≡ h.delays_stored
+result_delays h (Some x) class = refl
+result_delays h None class = refl
 
-result_output : (h : Held) (w : InstructionWords) (class : ℕ) → (with_result h w class).output_stored ≡ h.output_stored
-result_output h (InstructionWords.Formed x) class = refl
-result_output h InstructionWords.Malformed class = refl
+result_output : (h : Held) (w : Option Instruction) (class : ℕ) → (with_result h w class).output_stored ≡ h.output_stored
+result_output h (Some x) class = refl
+result_output h None class = refl
 
 -- words are a store of this kind
-abbrev Hit : (ℕ → Step) → StepWords → Type 0
-Hit store w = (r : ℕ) × (w ≡ StepWords.Formed (store r))
+abbrev Hit : (ℕ → Step) → Option Step → Type 0
+Hit store w = (r : ℕ) × (w ≡ Some (store r))
 
 -- words by their code, one number for all loads
-abbrev shape : StepWords → ℕ
-shape (StepWords.Formed (Load source r)) = 1
-shape (StepWords.Formed (Compute n)) = 7
-shape (StepWords.Formed (Spill slot r)) = 8
-shape (StepWords.Formed (Reload slot r)) = 9
-shape (StepWords.Formed (StoreState s r)) = 10
-shape (StepWords.Formed (StoreDelay d r)) = 11
-shape (StepWords.Formed (StoreOutput r)) = 12
-shape (StepWords.Formed (StoreControl slot r)) = 13
-shape StepWords.Malformed = 0
+abbrev shape : Option Step → ℕ
+shape (Some (Load source r)) = 1
+shape (Some (Compute n)) = 7
+shape (Some (Spill slot r)) = 8
+shape (Some (Reload slot r)) = 9
+shape (Some (StoreState s r)) = 10
+shape (Some (StoreDelay d r)) = 11
+shape (Some (StoreOutput r)) = 12
+shape (Some (StoreControl slot r)) = 13
+shape None = 0
 
 -- a flag of what is held: a step of its kind sets it, and no other changes it
 record Flag (l : Listing) (store : ℕ → Step) : Type 1 where
   pub flag : Held → ℕ
   pub Fit : Held → Type 0
-  pub keep : (h : Held) (w : StepWords) → Fit h → Fit (after_words l h w)
-  pub turn : (h : Held) (w : StepWords) → Fit h
+  pub keep : (h : Held) (w : Option Step) → Fit h → Fit (after_words l h w)
+  pub turn : (h : Held) (w : Option Step) → Fit h
       → (Hit store w × (flag (after_words l h w) ≡ 1)) ⊎ ((Hit store w → ⊥) × (flag (after_words l h w) ≡ flag h))
   pub fits : Fit (emptied l)
   pub starts : flag (emptied l) ≡ 0
@@ -535,41 +535,41 @@ module _ (l : Listing) (store : ℕ → Step) (f : Flag l store) where
       go (inr (t, q)) = absurd (t s)
 
 -- other words are no such store
-other : {store : ℕ → Step} {w : StepWords} (c : ℕ) → ((r : ℕ) → shape (StepWords.Formed (store r)) ≡ c) → (shape w ≡ c → ⊥) → Hit store w → ⊥
+other : {store : ℕ → Step} {w : Option Step} (c : ℕ) → ((r : ℕ) → shape (Some (store r)) ≡ c) → (shape w ≡ c → ⊥) → Hit store w → ⊥
 other c s z (r, e) = z (ap shape e ∙ s r)
 
 module _ (l : Listing) where
-  states_keep : (s : ℕ) (h : Held) (w : StepWords) → s < length h.states_stored → s < length (after_words l h w).states_stored
+  states_keep : (s : ℕ) (h : Held) (w : Option Step) → s < length h.states_stored → s < length (after_words l h w).states_stored
   unfolding after_step
-  states_keep s h (StepWords.Formed (Load source r)) p = p
-  states_keep s h (StepWords.Formed (Compute n)) p = rw (result_states h (instruction_at l.instructions n)) p
-  states_keep s h (StepWords.Formed (Spill slot r)) p = p
-  states_keep s h (StepWords.Formed (Reload slot r)) p = p
-  states_keep s h (StepWords.Formed (StoreState t r)) p = rw (length-set h.states_stored t 1) p
-  states_keep s h (StepWords.Formed (StoreDelay d r)) p = p
-  states_keep s h (StepWords.Formed (StoreOutput r)) p = p
-  states_keep s h (StepWords.Formed (StoreControl slot r)) p = p
-  states_keep s h StepWords.Malformed p = p
+  states_keep s h (Some (Load source r)) p = p
+  states_keep s h (Some (Compute n)) p = rw (result_states h (instruction_at l.instructions n)) p
+  states_keep s h (Some (Spill slot r)) p = p
+  states_keep s h (Some (Reload slot r)) p = p
+  states_keep s h (Some (StoreState t r)) p = rw (length-set h.states_stored t 1) p
+  states_keep s h (Some (StoreDelay d r)) p = p
+  states_keep s h (Some (StoreOutput r)) p = p
+  states_keep s h (Some (StoreControl slot r)) p = p
+  states_keep s h None p = p
 
-  states_turn : (s : ℕ) (h : Held) (w : StepWords) → s < length h.states_stored
+  states_turn : (s : ℕ) (h : Held) (w : Option Step) → s < length h.states_stored
       → (Hit (StoreState s) w × (get_or (after_words l h w).states_stored s 0 ≡ 1)) ⊎ ((Hit (StoreState s) w → ⊥) × (get_or (after_words l h w).states_stored s 0 ≡ get_or h.states_stored s 0))
   unfolding after_step
-  states_turn s h (StepWords.Formed (Load source r)) p = inr (other 10 (λ q. refl) (λ z. omega arith), refl)
-  states_turn s h (StepWords.Formed (Compute n)) p =
+  states_turn s h (Some (Load source r)) p = inr (other 10 (λ q. refl) (λ z. omega arith), refl)
+  states_turn s h (Some (Compute n)) p =
       inr (other 10 (λ q. refl) (λ z. omega arith), rw (result_states h (instruction_at l.instructions n)))
-  states_turn s h (StepWords.Formed (Spill slot r)) p = inr (other 10 (λ q. refl) (λ z. omega arith), refl)
-  states_turn s h (StepWords.Formed (Reload slot r)) p = inr (other 10 (λ q. refl) (λ z. omega arith), refl)
-  states_turn s h (StepWords.Formed (StoreState t r)) p = go (eqb s t) refl
+  states_turn s h (Some (Spill slot r)) p = inr (other 10 (λ q. refl) (λ z. omega arith), refl)
+  states_turn s h (Some (Reload slot r)) p = inr (other 10 (λ q. refl) (λ z. omega arith), refl)
+  states_turn s h (Some (StoreState t r)) p = go (eqb s t) refl
     where
       go : (b : Bool) → eqb s t ≡ b
-          → (Hit (StoreState s) (StepWords.Formed (StoreState t r)) × (get_or (set h.states_stored t 1) s 0 ≡ 1))
-          ⊎ ((Hit (StoreState s) (StepWords.Formed (StoreState t r)) → ⊥) × (get_or (set h.states_stored t 1) s 0 ≡ get_or h.states_stored s 0))
+          → (Hit (StoreState s) (Some (StoreState t r)) × (get_or (set h.states_stored t 1) s 0 ≡ 1))
+          ⊎ ((Hit (StoreState s) (Some (StoreState t r)) → ⊥) × (get_or (set h.states_stored t 1) s 0 ≡ get_or h.states_stored s 0))
       go true e = let q = eqb-true s t e in inl ((r, rw q), rw q (get_or-set_same h.states_stored t 1 0 (rw (← q) p)))
       go false e = inr (λ (u, q). eqb-false s t e cc, get_or-set_other h.states_stored t s 1 0 (eqb-false s t e))
-  states_turn s h (StepWords.Formed (StoreDelay d r)) p = inr (other 10 (λ q. refl) (λ z. omega arith), refl)
-  states_turn s h (StepWords.Formed (StoreOutput r)) p = inr (other 10 (λ q. refl) (λ z. omega arith), refl)
-  states_turn s h (StepWords.Formed (StoreControl slot r)) p = inr (other 10 (λ q. refl) (λ z. omega arith), refl)
-  states_turn s h StepWords.Malformed p = inr (other 10 (λ q. refl) (λ z. omega arith), refl)
+  states_turn s h (Some (StoreDelay d r)) p = inr (other 10 (λ q. refl) (λ z. omega arith), refl)
+  states_turn s h (Some (StoreOutput r)) p = inr (other 10 (λ q. refl) (λ z. omega arith), refl)
+  states_turn s h (Some (StoreControl slot r)) p = inr (other 10 (λ q. refl) (λ z. omega arith), refl)
+  states_turn s h None p = inr (other 10 (λ q. refl) (λ z. omega arith), refl)
 
   states_fit : (s : ℕ) → s < length l.graph.state_updates → s < length (emptied l).states_stored
   unfolding emptied
@@ -596,37 +596,37 @@ module _ (l : Listing) where
         stays = λ h. rw (states_enter h);
       }
 
-  delays_keep : (d : ℕ) (h : Held) (w : StepWords) → d < length h.delays_stored → d < length (after_words l h w).delays_stored
+  delays_keep : (d : ℕ) (h : Held) (w : Option Step) → d < length h.delays_stored → d < length (after_words l h w).delays_stored
   unfolding after_step
-  delays_keep d h (StepWords.Formed (Load source r)) p = p
-  delays_keep d h (StepWords.Formed (Compute n)) p = rw (result_delays h (instruction_at l.instructions n)) p
-  delays_keep d h (StepWords.Formed (Spill slot r)) p = p
-  delays_keep d h (StepWords.Formed (Reload slot r)) p = p
-  delays_keep d h (StepWords.Formed (StoreDelay t r)) p = rw (length-set h.delays_stored t 1) p
-  delays_keep d h (StepWords.Formed (StoreState t r)) p = p
-  delays_keep d h (StepWords.Formed (StoreOutput r)) p = p
-  delays_keep d h (StepWords.Formed (StoreControl slot r)) p = p
-  delays_keep d h StepWords.Malformed p = p
+  delays_keep d h (Some (Load source r)) p = p
+  delays_keep d h (Some (Compute n)) p = rw (result_delays h (instruction_at l.instructions n)) p
+  delays_keep d h (Some (Spill slot r)) p = p
+  delays_keep d h (Some (Reload slot r)) p = p
+  delays_keep d h (Some (StoreDelay t r)) p = rw (length-set h.delays_stored t 1) p
+  delays_keep d h (Some (StoreState t r)) p = p
+  delays_keep d h (Some (StoreOutput r)) p = p
+  delays_keep d h (Some (StoreControl slot r)) p = p
+  delays_keep d h None p = p
 
-  delays_turn : (d : ℕ) (h : Held) (w : StepWords) → d < length h.delays_stored
+  delays_turn : (d : ℕ) (h : Held) (w : Option Step) → d < length h.delays_stored
       → (Hit (StoreDelay d) w × (get_or (after_words l h w).delays_stored d 0 ≡ 1)) ⊎ ((Hit (StoreDelay d) w → ⊥) × (get_or (after_words l h w).delays_stored d 0 ≡ get_or h.delays_stored d 0))
   unfolding after_step
-  delays_turn d h (StepWords.Formed (Load source r)) p = inr (other 11 (λ q. refl) (λ z. omega arith), refl)
-  delays_turn d h (StepWords.Formed (Compute n)) p =
+  delays_turn d h (Some (Load source r)) p = inr (other 11 (λ q. refl) (λ z. omega arith), refl)
+  delays_turn d h (Some (Compute n)) p =
       inr (other 11 (λ q. refl) (λ z. omega arith), rw (result_delays h (instruction_at l.instructions n)))
-  delays_turn d h (StepWords.Formed (Spill slot r)) p = inr (other 11 (λ q. refl) (λ z. omega arith), refl)
-  delays_turn d h (StepWords.Formed (Reload slot r)) p = inr (other 11 (λ q. refl) (λ z. omega arith), refl)
-  delays_turn d h (StepWords.Formed (StoreDelay t r)) p = go (eqb d t) refl
+  delays_turn d h (Some (Spill slot r)) p = inr (other 11 (λ q. refl) (λ z. omega arith), refl)
+  delays_turn d h (Some (Reload slot r)) p = inr (other 11 (λ q. refl) (λ z. omega arith), refl)
+  delays_turn d h (Some (StoreDelay t r)) p = go (eqb d t) refl
     where
       go : (b : Bool) → eqb d t ≡ b
-          → (Hit (StoreDelay d) (StepWords.Formed (StoreDelay t r)) × (get_or (set h.delays_stored t 1) d 0 ≡ 1))
-          ⊎ ((Hit (StoreDelay d) (StepWords.Formed (StoreDelay t r)) → ⊥) × (get_or (set h.delays_stored t 1) d 0 ≡ get_or h.delays_stored d 0))
+          → (Hit (StoreDelay d) (Some (StoreDelay t r)) × (get_or (set h.delays_stored t 1) d 0 ≡ 1))
+          ⊎ ((Hit (StoreDelay d) (Some (StoreDelay t r)) → ⊥) × (get_or (set h.delays_stored t 1) d 0 ≡ get_or h.delays_stored d 0))
       go true e = let q = eqb-true d t e in inl ((r, rw q), rw q (get_or-set_same h.delays_stored t 1 0 (rw (← q) p)))
       go false e = inr (λ (u, q). eqb-false d t e cc, get_or-set_other h.delays_stored t d 1 0 (eqb-false d t e))
-  delays_turn d h (StepWords.Formed (StoreState t r)) p = inr (other 11 (λ q. refl) (λ z. omega arith), refl)
-  delays_turn d h (StepWords.Formed (StoreOutput r)) p = inr (other 11 (λ q. refl) (λ z. omega arith), refl)
-  delays_turn d h (StepWords.Formed (StoreControl slot r)) p = inr (other 11 (λ q. refl) (λ z. omega arith), refl)
-  delays_turn d h StepWords.Malformed p = inr (other 11 (λ q. refl) (λ z. omega arith), refl)
+  delays_turn d h (Some (StoreState t r)) p = inr (other 11 (λ q. refl) (λ z. omega arith), refl)
+  delays_turn d h (Some (StoreOutput r)) p = inr (other 11 (λ q. refl) (λ z. omega arith), refl)
+  delays_turn d h (Some (StoreControl slot r)) p = inr (other 11 (λ q. refl) (λ z. omega arith), refl)
+  delays_turn d h None p = inr (other 11 (λ q. refl) (λ z. omega arith), refl)
 
   delays_fit : (d : ℕ) → d < length l.graph.delay_updates → d < length (emptied l).delays_stored
   unfolding emptied
@@ -653,19 +653,19 @@ module _ (l : Listing) where
         stays = λ h. rw (delays_enter h);
       }
 
-  output_turn : (h : Held) (w : StepWords) → Unit {0}
+  output_turn : (h : Held) (w : Option Step) → Unit {0}
       → (Hit StoreOutput w × ((after_words l h w).output_stored ≡ 1)) ⊎ ((Hit StoreOutput w → ⊥) × ((after_words l h w).output_stored ≡ h.output_stored))
   unfolding after_step
-  output_turn h (StepWords.Formed (Load source r)) u = inr (other 12 (λ q. refl) (λ z. omega arith), refl)
-  output_turn h (StepWords.Formed (Compute n)) u =
+  output_turn h (Some (Load source r)) u = inr (other 12 (λ q. refl) (λ z. omega arith), refl)
+  output_turn h (Some (Compute n)) u =
       inr (other 12 (λ q. refl) (λ z. omega arith), result_output h (instruction_at l.instructions n) _)
-  output_turn h (StepWords.Formed (Spill slot r)) u = inr (other 12 (λ q. refl) (λ z. omega arith), refl)
-  output_turn h (StepWords.Formed (Reload slot r)) u = inr (other 12 (λ q. refl) (λ z. omega arith), refl)
-  output_turn h (StepWords.Formed (StoreState s r)) u = inr (other 12 (λ q. refl) (λ z. omega arith), refl)
-  output_turn h (StepWords.Formed (StoreDelay d r)) u = inr (other 12 (λ q. refl) (λ z. omega arith), refl)
-  output_turn h (StepWords.Formed (StoreOutput r)) u = inl ((r, refl), refl)
-  output_turn h (StepWords.Formed (StoreControl slot r)) u = inr (other 12 (λ q. refl) (λ z. omega arith), refl)
-  output_turn h StepWords.Malformed u = inr (other 12 (λ q. refl) (λ z. omega arith), refl)
+  output_turn h (Some (Spill slot r)) u = inr (other 12 (λ q. refl) (λ z. omega arith), refl)
+  output_turn h (Some (Reload slot r)) u = inr (other 12 (λ q. refl) (λ z. omega arith), refl)
+  output_turn h (Some (StoreState s r)) u = inr (other 12 (λ q. refl) (λ z. omega arith), refl)
+  output_turn h (Some (StoreDelay d r)) u = inr (other 12 (λ q. refl) (λ z. omega arith), refl)
+  output_turn h (Some (StoreOutput r)) u = inl ((r, refl), refl)
+  output_turn h (Some (StoreControl slot r)) u = inr (other 12 (λ q. refl) (λ z. omega arith), refl)
+  output_turn h None u = inr (other 12 (λ q. refl) (λ z. omega arith), refl)
 
   output_start : (emptied l).output_stored ≡ 0
   unfolding emptied
@@ -694,9 +694,9 @@ last_says l Control i e = true_false (sym e)
 last_says l Sample i e = let q = eqb-true (suc i) l.kernel.sample e in omega arith
 
 module _ (l : Listing) (n : Counts) (good : GoodGraph n l.graph) where
-  words_move : (h : Held) (w : InstructionWords) (class : ℕ) → words_class l.graph h w ≡ suc class → WordsCompute l.graph h w class
-  words_move h (InstructionWords.Formed x) class e = result_moves n l.graph good h x class e
-  words_move h InstructionWords.Malformed class e = absurd (omega arith)
+  words_move : (h : Held) (w : Option Instruction) (class : ℕ) → words_class l.graph h w ≡ suc class → WordsCompute l.graph h w class
+  words_move h (Some x) class e = result_moves n l.graph good h x class e
+  words_move h None class e = absurd (omega arith)
 
   -- what the walk finds is what the step moves
   moved_moves : (h : Held) (step : Step) (class : ℕ) → moved_class l.graph l.instructions h step ≡ suc class
@@ -722,7 +722,7 @@ module _ (l : Listing) (n : Counts) (good : GoodGraph n l.graph) where
             record {
               step = step;
               formed = p;
-              computed = λ c f. instruction_of run c (ap StepWords.Formed f);
+              computed = λ c f. instruction_of run c (ap Some f);
               in_mask_lem = step_mask l.mask l.instructions step k;
               inside = inside_of run step refl;
               in_phase = phase_says phase step (allowed_of run step refl);
@@ -733,23 +733,23 @@ module _ (l : Listing) (n : Counts) (good : GoodGraph n l.graph) where
             let f : step ≡ StoreState s r = cc in
             let (z, a) = unless_says (get_or (before l phase i).states_stored s 0) _ class (rw f at v) in
             let (node, u, c, q) = asked_says n l.graph good (before l phase i) (get_or l.graph.state_updates s 0) (register (before l phase i) r) class a in
-            record { node = node; update_is = u; class = c; once = not_stored l (StoreState s) (state_flag l s (inside_of run (StoreState s r) (ap StepWords.Formed f))) phase i z };
+            record { node = node; update_is = u; class = c; once = not_stored l (StoreState s) (state_flag l s (inside_of run (StoreState s r) (ap Some f))) phase i z };
         delay_store =
             λ d r t.
             let f : step ≡ StoreDelay d r = cc in
             let (z, a) = unless_says (get_or (before l phase i).delays_stored d 0) _ class (rw f at v) in
             let (node, u, c, q) = asked_says n l.graph good (before l phase i) (get_or l.graph.delay_updates d 0) (register (before l phase i) r) class a in
-            record { node = node; update_is = u; class = c; once = not_stored l (StoreDelay d) (delay_flag l d (inside_of run (StoreDelay d r) (ap StepWords.Formed f))) phase i z };
+            record { node = node; update_is = u; class = c; once = not_stored l (StoreDelay d) (delay_flag l d (inside_of run (StoreDelay d r) (ap Some f))) phase i z };
         state_load =
             λ s r t.
             let f : step ≡ Load (Source.State s) r = cc in
             let (z, a) = unless_says (get_or (before l phase i).states_stored s 0) _ class (rw f at v) in
-            not_stored l (StoreState s) (state_flag l s (inside_of run (Load (Source.State s) r) (ap StepWords.Formed f))) phase i z;
+            not_stored l (StoreState s) (state_flag l s (inside_of run (Load (Source.State s) r) (ap Some f))) phase i z;
         delay_load =
             λ d r t.
             let f : step ≡ Load (Source.Delay d) r = cc in
             let (z, a) = unless_says (get_or (before l phase i).delays_stored d 0) _ class (rw f at v) in
-            not_stored l (StoreDelay d) (delay_flag l d (inside_of run (Load (Source.Delay d) r) (ap StepWords.Formed f))) phase i z;
+            not_stored l (StoreDelay d) (delay_flag l d (inside_of run (Load (Source.Delay d) r) (ap Some f))) phase i z;
         output_store =
             λ r t.
             let f : step ≡ StoreOutput r = cc in
@@ -773,10 +773,10 @@ module _ (l : Listing) (n : Counts) (good : GoodGraph n l.graph) where
   not_yet phase i p (Source.Parameter index) r e = tt
   not_yet phase i p (Source.State s) r e =
       let inside : s < length l.graph.state_updates = subst (Inside (sizes_of l)) e p.sound.inside in
-      flag_clear l (StoreState s) (state_flag l s inside) phase i (p.state_load s r (p.sound.formed ∙ ap StepWords.Formed e))
+      flag_clear l (StoreState s) (state_flag l s inside) phase i (p.state_load s r (p.sound.formed ∙ ap Some e))
   not_yet phase i p (Source.Delay d) r e =
       let inside : d < length l.graph.delay_updates = subst (Inside (sizes_of l)) e p.sound.inside in
-      flag_clear l (StoreDelay d) (delay_flag l d inside) phase i (p.delay_load d r (p.sound.formed ∙ ap StepWords.Formed e))
+      flag_clear l (StoreDelay d) (delay_flag l d inside) phase i (p.delay_load d r (p.sound.formed ∙ ap Some e))
   not_yet phase i p (Source.Control slot) r e = tt
 
   -- the walk finds what a step that passes moves
@@ -790,16 +790,16 @@ module _ (l : Listing) (n : Counts) (good : GoodGraph n l.graph) where
   moves_moved phase i p (Reload slot r) class e m = m
   moves_moved phase i p (StoreState s r) class e m =
       let inside : s < length l.graph.state_updates = subst (Inside (sizes_of l)) e p.sound.inside in
-      let q = p.state_store s r (p.sound.formed ∙ ap StepWords.Formed e) in
+      let q = p.state_store s r (p.sound.formed ∙ ap Some e) in
       unless_is _ _ class (flag_clear l (StoreState s) (state_flag l s inside) phase i q.once)
       (asked_is n l.graph good (before l phase i) _ _ q.node q.update_is q.class ∙ m)
   moves_moved phase i p (StoreDelay d r) class e m =
       let inside : d < length l.graph.delay_updates = subst (Inside (sizes_of l)) e p.sound.inside in
-      let q = p.delay_store d r (p.sound.formed ∙ ap StepWords.Formed e) in
+      let q = p.delay_store d r (p.sound.formed ∙ ap Some e) in
       unless_is _ _ class (flag_clear l (StoreDelay d) (delay_flag l d inside) phase i q.once)
       (asked_is n l.graph good (before l phase i) _ _ q.node q.update_is q.class ∙ m)
   moves_moved phase i p (StoreOutput r) class e m =
-      asked_is n l.graph good (before l phase i) _ _ l.graph.output refl (p.output_store r (p.sound.formed ∙ ap StepWords.Formed e)).1 ∙ m
+      asked_is n l.graph good (before l phase i) _ _ l.graph.output refl (p.output_store r (p.sound.formed ∙ ap Some e)).1 ∙ m
   moves_moved phase i p (StoreControl slot r) class e m = m
 
   -- an output store of a phase that allows it is the last step
@@ -816,7 +816,7 @@ module _ (l : Listing) (n : Counts) (good : GoodGraph n l.graph) where
   output_is phase i p (StoreDelay d r) e = refl
   output_is phase i p (StoreOutput r) e =
       last_is phase i (subst (λ (t : Step). CodeOf phase (step_code t)) e p.sound.in_phase)
-      (p.output_store r (p.sound.formed ∙ ap StepWords.Formed e)).0
+      (p.output_store r (p.sound.formed ∙ ap Some e)).0
   output_is phase i p (StoreControl slot r) e = refl
 
   step_is : (phase : Phase) (i : ℕ) (p : StepPasses l phase i) → step_passes l phase (last_of l phase i) (before l phase i) p.sound.step ≡ true
@@ -832,9 +832,9 @@ module _ (l : Listing) (n : Counts) (good : GoodGraph n l.graph) where
   pub step_exactly : (phase : Phase) (i : ℕ) → passes_at l phase i ≡ true ↔ StepPasses l phase i
   step_exactly phase i = (λ e. go (step_at l.steps (position l phase i)) refl e, λ p. ap (words_pass l phase (last_of l phase i) (before l phase i)) p.sound.formed ∙ step_is phase i p)
     where
-      go : (w : StepWords) → step_at l.steps (position l phase i) ≡ w → words_pass l phase (last_of l phase i) (before l phase i) w ≡ true → StepPasses l phase i
-      go (StepWords.Formed step) p e = step_says phase i step p e
-      go StepWords.Malformed p e = true_false (sym e)
+      go : (w : Option Step) → step_at l.steps (position l phase i) ≡ w → words_pass l phase (last_of l phase i) (before l phase i) w ≡ true → StepPasses l phase i
+      go (Some step) p e = step_says phase i step p e
+      go None p e = true_false (sym e)
 
 -- ---- nothing is missing
 
@@ -1227,7 +1227,7 @@ module _ (l : Listing) (n : Counts) (good : GoodGraph n l.graph) where
   before_next Sample i = refl
 
   after_formed : (h : Held) (step : Step) (class : ℕ) → moved_class l.graph l.instructions h step ≡ suc class
-      → after_words l h (StepWords.Formed step) ≡ after_move l.instructions h step (suc class)
+      → after_words l h (Some step) ≡ after_move l.instructions h step (suc class)
   unfolding after_step
   after_formed h step class e = ap (after_move l.instructions h step) e
 

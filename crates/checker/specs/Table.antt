@@ -1,15 +1,16 @@
 -- Where the work table keeps what is held: behind the index of the classes the registers, then a flag for the output, each state and each delay, then the
 -- control and the spill slots. Definitions alone.
-use Rattle.std.specs.Prelude.{◌≡◌, cond, List, [], ℕ, ◌+◌, ◌*◌, ◌≤◌, length, get_or, set, ltb}
+use Rattle.std.specs.Prelude.{◌≡◌, cond, List, [], ℕ, ◌+◌, ◌*◌, ◌≤◌, length, get_or, set, ltb, Option, Some, None}
 use Rattle.tables.specs.Parts.{part}
 use Rattle.expand.specs.Graph.{Graph}
+use Rattle.kernel.specs.declared.Instruction.{Instruction}
 use Rattle.kernel.specs.declared.Step.{Step}
 use Rattle.kernel.specs.declared.Step.TheVariants.{Load, Compute, Spill, Reload, StoreState, StoreDelay, StoreOutput, StoreControl}
-use Rattle.kernel.specs.declared.InstructionWords.{InstructionWords}
 use Rattle.kernel.specs.Instructions.{destination, instruction_at}
 use Rattle.classes.specs.Start.{index_length}
 use Rattle.classes.specs.Index.{Indexed}
-use Rattle.checker.specs.declared.Terms.{Terms}
+use Rattle.checker.specs.declared.table.Terms.{Terms}
+use Rattle.checker.specs.declared.table.Region.{Region}
 use Rattle.checker.specs.Walk.{Held, held, Listing, listing}
 
 -- the expanded block as the code has it. No step reads a delay's length
@@ -51,6 +52,10 @@ spills_at p = 7 * p.count + 49 + p.states + p.delays + p.kernel.slots
 abbrev pub table_end : Terms → ℕ
 table_end p = 7 * p.count + 49 + p.states + p.delays + p.kernel.slots + p.kernel.spills
 
+-- a region as the code has it
+abbrev pub region : ℕ → ℕ → Region
+region base count = record { base = base; count = count }
+
 -- what a work table holds
 unfoldable pub held_of : Terms → List ℕ → Held
 held_of p t =
@@ -68,9 +73,9 @@ held_of p t =
 unfoldable pub put_in : ℕ → ℕ → ℕ → ℕ → List ℕ → List ℕ
 put_in b n i word t = cond (ltb i n) (set t (b + i) word) t
 
-abbrev pub result_table : Terms → List ℕ → InstructionWords → ℕ → List ℕ
-result_table p t (InstructionWords.Formed instruction) class = put_in (registers_at p) 16 (destination instruction) class t
-result_table p t InstructionWords.Malformed class = t
+abbrev pub result_table : Terms → List ℕ → Option Instruction → ℕ → List ℕ
+result_table p t (Some instruction) class = put_in (registers_at p) 16 (destination instruction) class t
+result_table p t None class = t
 
 -- the work table after a step that moved this class
 abbrev pub table_after : Terms → List ℕ → List ℕ → Step → ℕ → List ℕ

@@ -1,16 +1,16 @@
 -- A store in one region of the work table is a store in what is held; the index stands. Assumes nothing.
-use Rattle.std.specs.Prelude.{◌≡◌, refl, ◌⊎◌, List, ℕ, ◌+◌, ◌≤◌, ◌<◌, length, get_or, set, ltb}
+use Rattle.std.specs.Prelude.{◌≡◌, refl, ◌⊎◌, List, ℕ, ◌+◌, ◌≤◌, ◌<◌, length, get_or, set, ltb, Option, Some, None}
 use Rattle.std.proofs.Common.{sym, inl, inr, arith, length-set, ltb-true, ltb-false, lt-ltb, le-ltb}
 use Rattle.std.proofs.Math.ListN.{get_or-eq_default}
 use Rattle.std.proofs.Math.Seq.{set_out, get_or-set_same}
 use Rattle.tables.specs.Parts.{part, length_part, part_at, part_in, part_out}
 use Rattle.tables.specs.Tests.{cond_pred}
+use Rattle.kernel.specs.declared.Instruction.{Instruction}
 use Rattle.kernel.specs.declared.Step.{Step}
 use Rattle.kernel.specs.declared.Step.TheVariants.{Load, Compute, Spill, Reload, StoreState, StoreDelay, StoreOutput, StoreControl}
-use Rattle.kernel.specs.declared.InstructionWords.{InstructionWords}
 use Rattle.kernel.specs.Instructions.{destination, instruction_at}
 use Rattle.classes.specs.Index.{Indexed, indexed_above}
-use Rattle.checker.specs.declared.Terms.{Terms}
+use Rattle.checker.specs.declared.table.Terms.{Terms}
 use Rattle.checker.specs.Walk.{held, after_move, with_result, with_register}
 use Rattle.checker.specs.Table.{registers_at, output_at, states_at, delays_at, control_at, spills_at, table_end, held_of, put_in, result_table, table_after, Ready}
 
@@ -138,9 +138,9 @@ pub table_after_lem : (p : Terms) (instructions t : List ℕ) (step : Step) (cla
 table_after_lem p instructions t (Load source r) class room = register_put p t room r class
 table_after_lem p instructions t (Compute i) class room = go (instruction_at instructions i)
   where
-    go : (w : InstructionWords) → held_of p (result_table p t w class) ≡ with_result (held_of p t) w class
-    go (InstructionWords.Formed instruction) = register_put p t room (destination instruction) class
-    go InstructionWords.Malformed = refl
+    go : (w : Option Instruction) → held_of p (result_table p t w class) ≡ with_result (held_of p t) w class
+    go (Some instruction) = register_put p t room (destination instruction) class
+    go None = refl
 table_after_lem p instructions t (Spill slot r) class room = spill_put p t room slot class
 table_after_lem p instructions t (Reload slot r) class room = register_put p t room r class
 table_after_lem p instructions t (StoreState state r) class room = state_put p t room state 1
@@ -168,9 +168,9 @@ module _ (p : Terms) (nodes updates stores instructions t : List ℕ) (ready : R
   ready_after (Load source r) class = put_ready _ _ _ _ (omega arith)
   ready_after (Compute i) class = go (instruction_at instructions i)
     where
-      go : (w : InstructionWords) → Ready p nodes updates stores instructions (result_table p t w class)
-      go (InstructionWords.Formed instruction) = put_ready _ _ _ _ (omega arith)
-      go InstructionWords.Malformed = ready
+      go : (w : Option Instruction) → Ready p nodes updates stores instructions (result_table p t w class)
+      go (Some instruction) = put_ready _ _ _ _ (omega arith)
+      go None = ready
   ready_after (Spill slot r) class = put_ready _ _ _ _ (omega arith)
   ready_after (Reload slot r) class = put_ready _ _ _ _ (omega arith)
   ready_after (StoreState state r) class = put_ready _ _ _ _ (omega arith)

@@ -1,5 +1,5 @@
 -- "Control is walked, then sample": what the registers and slots hold before each step, as classes of nodes, and which steps pass. Definitions alone.
-use Rattle.std.specs.Prelude.{Bool, true, false, cond, not, ◌||◌, List, ℕ, zero, suc, ◌+◌, ◌/◌, ◌%◌, ◌^◌, length, get_or, set, replicate, ltb, eqb}
+use Rattle.std.specs.Prelude.{Bool, true, false, cond, not, ◌||◌, List, ℕ, zero, suc, ◌+◌, ◌/◌, ◌%◌, ◌^◌, length, get_or, set, replicate, ltb, eqb, Option, Some, None}
 use Rattle.tables.specs.Tests.{◌&◌}
 use Rattle.tables.specs.Loops.{every}
 use Rattle.answers.specs.Numbers.{Answer}
@@ -8,16 +8,15 @@ use Rattle.expand.specs.Graph.{Graph}
 use Rattle.kernel.specs.declared.Source.{Source}
 use Rattle.kernel.specs.declared.Step.{Step}
 use Rattle.kernel.specs.declared.Step.TheVariants.{Load, Compute, Spill, Reload, StoreState, StoreDelay, StoreOutput, StoreControl}
-use Rattle.kernel.specs.declared.StepWords.{StepWords}
 use Rattle.kernel.specs.declared.Instruction.{Instruction}
 use Rattle.kernel.specs.declared.Instruction.TheVariants.{Immediate, Add, Sub, Mul, Min, Max, Neg, Abs, IntegerSub}
-use Rattle.kernel.specs.declared.InstructionWords.{InstructionWords}
 use Rattle.kernel.specs.declared.Phase.{Phase}
 use Rattle.kernel.specs.declared.Phase.TheVariants.{Control, Sample}
 use Rattle.kernel.specs.declared.Kernel.{Kernel}
 use Rattle.kernel.specs.Steps.{step_at}
 use Rattle.kernel.specs.Instructions.{destination, instruction_at}
-use Rattle.kernel.specs.Lists.{Sizes, sizes, step_may_run}
+use Rattle.kernel.specs.declared.Sizes.{Sizes}
+use Rattle.kernel.specs.Lists.{sizes, step_may_run}
 use Rattle.classes.specs.Classes.{classes_to, find}
 
 -- a step list with what it is checked against: the expanded block, the number of its parameters, the mask
@@ -54,9 +53,9 @@ instruction_in_mask mask (Neg dst src) = in_mask mask dst & in_mask mask src
 instruction_in_mask mask (Abs dst src) = in_mask mask dst & in_mask mask src
 instruction_in_mask mask (IntegerSub dst lhs rhs) = in_mask mask dst & in_mask mask lhs & in_mask mask rhs
 
-abbrev pub words_in_mask : ℕ → InstructionWords → Bool
-words_in_mask mask (InstructionWords.Formed instruction) = instruction_in_mask mask instruction
-words_in_mask mask InstructionWords.Malformed = false
+abbrev pub words_in_mask : ℕ → Option Instruction → Bool
+words_in_mask mask (Some instruction) = instruction_in_mask mask instruction
+words_in_mask mask None = false
 
 abbrev pub step_in_mask : ℕ → List ℕ → Step → Bool
 step_in_mask mask instructions (Load source register) = in_mask mask register
@@ -138,9 +137,9 @@ computed_class g h (Neg dst src) = result_of_one g 12 (register h src)
 computed_class g h (Abs dst src) = result_of_one g 13 (register h src)
 computed_class g h (IntegerSub dst lhs rhs) = result_of_two g 10 (register h lhs) (register h rhs)
 
-abbrev pub words_class : Graph → Held → InstructionWords → ℕ
-words_class g h (InstructionWords.Formed instruction) = computed_class g h instruction
-words_class g h InstructionWords.Malformed = 0
+abbrev pub words_class : Graph → Held → Option Instruction → ℕ
+words_class g h (Some instruction) = computed_class g h instruction
+words_class g h None = 0
 
 -- what is stored where an update (0, or a node's number and one) asks for that node's class
 unfoldable pub asked : Graph → ℕ → ℕ → ℕ
@@ -163,9 +162,9 @@ moved_class g instructions h (StoreControl slot r) = register h r
 abbrev pub with_register : Held → ℕ → ℕ → Held
 with_register h r class = held (set h.registers r class) h.control h.spills h.states_stored h.delays_stored h.output_stored
 
-abbrev pub with_result : Held → InstructionWords → ℕ → Held
-with_result h (InstructionWords.Formed instruction) class = with_register h (destination instruction) class
-with_result h InstructionWords.Malformed class = h
+abbrev pub with_result : Held → Option Instruction → ℕ → Held
+with_result h (Some instruction) class = with_register h (destination instruction) class
+with_result h None class = h
 
 abbrev pub after_move : List ℕ → Held → Step → ℕ → Held
 after_move instructions h (Load source r) class = with_register h r class
@@ -185,9 +184,9 @@ unfoldable pub after_step : Listing → Held → Step → Held
 after_step l h step = after_move l.instructions h step (moved_class l.graph l.instructions h step)
 
 -- the words of a malformed step change nothing; the list does not pass
-abbrev pub after_words : Listing → Held → StepWords → Held
-after_words l h (StepWords.Formed step) = after_step l h step
-after_words l h StepWords.Malformed = h
+abbrev pub after_words : Listing → Held → Option Step → Held
+after_words l h (Some step) = after_step l h step
+after_words l h None = h
 
 -- ---- the walk
 
@@ -239,9 +238,9 @@ step_passes l phase last h step =
     & output_only_last last step
     & not (eqb (moved_class l.graph l.instructions h step) 0)
 
-abbrev pub words_pass : Listing → Phase → Bool → Held → StepWords → Bool
-words_pass l phase last h (StepWords.Formed step) = step_passes l phase last h step
-words_pass l phase last h StepWords.Malformed = false
+abbrev pub words_pass : Listing → Phase → Bool → Held → Option Step → Bool
+words_pass l phase last h (Some step) = step_passes l phase last h step
+words_pass l phase last h None = false
 
 unfoldable pub control_passes : Listing → ℕ → Bool
 control_passes l i = words_pass l Control false (before_control l i) (step_at l.steps i)

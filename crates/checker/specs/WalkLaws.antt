@@ -1,6 +1,6 @@
 -- The walk as the code does it on the work table: one step, the steps of a phase, what comes between the phases, and that the whole is `walk_answer`.
 -- Assumes nothing.
-use Rattle.std.specs.Prelude.{◌≡◌, refl, Bool, true, false, ◌||◌, List, [], ◌∷◌, ℕ, zero, suc, ◌+◌, ◌-◌, ◌*◌, ◌≤◌, ◌<◌, get_or, set, drop, eqb}
+use Rattle.std.specs.Prelude.{◌≡◌, refl, Bool, true, false, ◌||◌, List, [], ◌∷◌, ℕ, zero, suc, ◌+◌, ◌-◌, ◌*◌, ◌≤◌, ◌<◌, get_or, set, drop, eqb, Result, Ok, Err, IsErrAnd, Option, Some, None, IsTrue, ◌↔◌}
 use Rattle.std.proofs.Math.Path.{sym, ap}
 use Rattle.std.proofs.Common.{◌∙◌, zero-add, add-one, length-drop, length-take-le}
 use Rattle.std.proofs.Math.Bool.{not}
@@ -10,26 +10,23 @@ use Rattle.std.proofs.Math.ListN.{length, get_or-eq_default}
 use Rattle.std.proofs.lemmas.List.Edits.{sets}
 use borrow.Author.Tests.{ne_eqb, eq-eqb, not-true, not-false}
 use borrow.Rule.Slice.PartMut.{put_mid}
-use Rattle.tables.specs.Tests.{◌&◌, &_left, &_right, &_next, differs}
-use Rattle.tables.specs.Loops.{every}
+use Rattle.tables.specs.Tests.{◌&◌, &_left, &_right, &_next, differs, true_false}
+use Rattle.tables.specs.Loops.{every, every_all, every_true}
 use Rattle.tables.specs.Parts.{part, length_part, part_at, put_part, put_before, put_after}
 use Rattle.tables.specs.Zeros.{zeros, zeros_length, zeroed, zeroed_length, put_zeros}
 use Rattle.answers.specs.Numbers.{Answer, accepted, answer_of}
-use Rattle.answers.specs.declared.Verdict.{Verdict}
-use Rattle.answers.specs.declared.Verdict.TheVariants.{Valid, Refused}
 use Rattle.answers.specs.declared.Refusal.{Refusal}
 use Rattle.answers.specs.declared.Refusal.TheVariants as R
 use Rattle.answers.specs.Order.{◌⨾◌, refuse_at, in_order}
 use Rattle.answers.specs.OrderLaws.{refuse_at_on, refuse_at_off, in_order_start, in_order_next, in_order_stop, in_order_end, hand_on, go_on}
 use Rattle.kernel.specs.declared.Step.{Step}
-use Rattle.kernel.specs.declared.StepWords.{StepWords}
 use Rattle.kernel.specs.declared.Phase.{Phase}
 use Rattle.kernel.specs.declared.Phase.TheVariants.{Control, Sample}
 use Rattle.kernel.specs.Steps.{step_at}
 use Rattle.kernel.specs.Lists.{sizes, step_may_run}
 use Rattle.classes.specs.Start.{index_length}
 use Rattle.classes.specs.Index.{Fresh, Indexed, indexed_above}
-use Rattle.checker.specs.declared.Terms.{Terms}
+use Rattle.checker.specs.declared.table.Terms.{Terms}
 use Rattle.checker.specs.Walk.{Held, Listing, step_in_mask, output_only_last, moved_class, after_step, after_words, emptied, entered, walked, before_control, step_passes, words_pass, control_passes, sample_passes, stored_if_asked, nothing_missing, control_answer, walk_answer}
 use Rattle.checker.specs.Table.{graph_from, listing_from, registers_at, output_at, states_at, delays_at, control_at, spills_at, table_end, held_of, table_after, Ready}
 use Rattle.checker.specs.TableLaws.{table_after_lem, ready_after}
@@ -79,18 +76,18 @@ pub record Taken (p : Terms) (nodes updates stores steps instructions : List ℕ
   pub ready : Ready p nodes updates stores instructions t'
 
 module _ (p : Terms) (nodes updates stores steps instructions : List ℕ) (phase : Phase) (last : Bool) (at : ℕ) (t : List ℕ)
-    (ready : Ready p nodes updates stores instructions t) {words : StepWords} (w : words ≡ step_at steps at) where
+    (ready : Ready p nodes updates stores instructions t) {words : Option Step} (w : words ≡ step_at steps at) where
   abbrev L : Listing
   L = listing_from p nodes updates stores steps instructions
 
   none : false ≡ words_pass L phase last (held_of p t) (step_at steps at) → Taken p nodes updates stores steps instructions phase last at t t false
   none e = record { passes = e; moves = λ z. absurd (let y : ◌≡◌ {A = ℕ} 0 1 = cc in omega arith); ready = ready }
 
-  pub taken_malformed : words ≡ StepWords.Malformed → Taken p nodes updates stores steps instructions phase last at t t false
+  pub taken_malformed : words ≡ None → Taken p nodes updates stores steps instructions phase last at t t false
   taken_malformed e = none (rw (← w, e))
 
-  module _ (step : Step) (e : words ≡ StepWords.Formed step) {may : Bool} (m : may ≡ may_pass p instructions phase last step) where
-    formed : step_at steps at ≡ StepWords.Formed step
+  module _ (step : Step) (e : words ≡ Some step) {may : Bool} (m : may ≡ may_pass p instructions phase last step) where
+    formed : step_at steps at ≡ Some step
     formed = sym w ∙ e
 
     abbrev moving : ℕ
@@ -131,9 +128,9 @@ last_in Sample n i = eqb (suc i) n
 unfoldable pub phase_answer : Listing → Phase → Held → ℕ → ℕ → ℕ → Answer Unit
 phase_answer l phase h from n i = refuse_at 19 (from + i) (not (words_pass l phase (last_in phase n i) (walked l h from i) (step_at l.steps (from + i))))
 
-pub record Walked (p : Terms) (nodes updates stores steps instructions : List ℕ) (phase : Phase) (from n : ℕ) (t t' : List ℕ) (v : Verdict) : Type 0 where
+pub record Walked (p : Terms) (nodes updates stores steps instructions : List ℕ) (phase : Phase) (from n : ℕ) (t t' : List ℕ) (v : Result Unit Refusal) : Type 0 where
   pub answers : answer_of v ≡ in_order (phase_answer (listing_from p nodes updates stores steps instructions) phase (held_of p t) from n) n
-  pub holds : v ≡ Valid → held_of p t' ≡ walked (listing_from p nodes updates stores steps instructions) (held_of p t) from n
+  pub holds : v ≡ Ok tt → held_of p t' ≡ walked (listing_from p nodes updates stores steps instructions) (held_of p t) from n
   pub ready : Ready p nodes updates stores instructions t'
 
 -- before step i: all before it pass
@@ -149,7 +146,7 @@ module _ (p : Terms) (nodes updates stores steps instructions : List ℕ) (phase
   walking_start r = record { within = omega arith; holds = refl; so_far = in_order_start _; ready = r }
 
   module _ (t' : List ℕ) (i : ℕ) (w : Walking p nodes updates stores steps instructions phase from n t t' i) where
-    pub walking_end : n ≤ i → Walked p nodes updates stores steps instructions phase from n t t' Valid
+    pub walking_end : n ≤ i → Walked p nodes updates stores steps instructions phase from n t t' (Ok tt)
     walking_end h =
         let q : i ≡ n = omega (arith, w.within) in
         record {
@@ -168,7 +165,7 @@ module _ (p : Terms) (nodes updates stores steps instructions : List ℕ) (phase
       own_is = rw (k.passes, e, w.holds)
 
       pub walking_stop : not r ≡ true → (position : ℕ) → position ≡ from + i
-          → Walked p nodes updates stores steps instructions phase from n t t'' (Refused (R.StepRefused position))
+          → Walked p nodes updates stores steps instructions phase from n t t'' (Err (R.StepRefused position))
       walking_stop z position q =
           record {
             answers = sym (in_order_stop _ n i 19 (position ∷ []) h w.so_far (own_is ∙ (refuse_at_on 19 (from + i) z ∙ rw q)));
@@ -326,6 +323,20 @@ pub stored_is : (updates t : List ℕ) (b i : ℕ) → i < length updates → {r
 unfolding stored_if_asked fulfilled
 stored_is updates t b i h e = e ∙ rw (part_at b (length updates) t i h)
 
+-- a test that passes exactly where each is fulfilled
+pub all_fulfilled : (updates flags : List ℕ) {b : Bool} → (IsTrue b ↔ ((i : ℕ) → i < length updates → fulfilled (get_or updates i 0) (get_or flags i 0) ≡ true))
+    → b ≡ every (stored_if_asked updates flags) (length updates)
+unfolding stored_if_asked fulfilled
+all_fulfilled updates flags {b} h = go b (every p (length updates)) refl refl
+  where
+    p : ℕ → Bool
+    p i = eqb (get_or updates i 0) 0 || not (eqb (get_or flags i 0) 0)
+
+    go : (a d : Bool) → b ≡ a → every p (length updates) ≡ d → b ≡ every p (length updates)
+    go true d e f = e ∙ sym (every_all p (length updates) (h.0 e))
+    go false true e f = true_false (sym (h.1 (every_true p (length updates) f)) ∙ e)
+    go false false e f = e ∙ sym f
+
 unfoldable pub misses_nothing : List ℕ → List ℕ → Held → Bool
 misses_nothing updates stores h =
     every (stored_if_asked updates h.states_stored) (length updates) & every (stored_if_asked stores h.delays_stored) (length stores) & not (eqb h.output_stored 0)
@@ -382,7 +393,7 @@ module _ (p : Terms) (nodes updates stores steps instructions : List ℕ) where
   M = listing_from p nodes updates stores steps instructions
 
   -- the sample phase
-  module _ (t t₁ t₂ : List ℕ) (v : Verdict) (ready : Ready p nodes updates stores instructions t) (e : t₁ ≡ entered_table p t)
+  module _ (t t₁ t₂ : List ℕ) (v : Result Unit Refusal) (ready : Ready p nodes updates stores instructions t) (e : t₁ ≡ entered_table p t)
       (w : Walked p nodes updates stores steps instructions Sample p.kernel.control p.kernel.sample t₁ t₂ v) where
     at_entry : held_of p t₁ ≡ entered M (held_of p t)
     at_entry = ap (held_of p) e ∙ entered_held p nodes updates stores steps instructions t ready
@@ -390,34 +401,34 @@ module _ (p : Terms) (nodes updates stores steps instructions : List ℕ) where
     steps_answer : answer_of v ≡ in_order (phase_answer M Sample (entered M (held_of p t)) p.kernel.control p.kernel.sample) p.kernel.sample
     steps_answer = w.answers ∙ rw at_entry
 
-    pub sample_stop : {r : Refusal} → v ≡ Refused r → answer_of v ≡ sample_from M (held_of p t)
+    pub sample_stop : (r : Result Unit Refusal) {x : Refusal} → v ≡ Err x → IsErrAnd r (λ y. y ≡ x) → answer_of r ≡ sample_from M (held_of p t)
     unfolding sample_from
-    sample_stop f = hand_on v _ steps_answer f
+    sample_stop r f h = hand_on r _ steps_answer f h
 
-    module _ (f : v ≡ Valid) {b : Bool} (m : b ≡ misses_nothing updates stores (held_of p t₂)) where
+    module _ (f : v ≡ Ok tt) {b : Bool} (m : b ≡ misses_nothing updates stores (held_of p t₂)) where
       end_is : b ≡ nothing_missing M (walked M (entered M (held_of p t)) p.kernel.control p.kernel.sample)
       unfolding misses_nothing nothing_missing
       end_is = m ∙ rw (w.holds f, at_entry)
 
       sample_end : (a : Answer Unit) → a ≡ refuse_at 19 (p.kernel.control + p.kernel.sample) (not b) → a ≡ sample_from M (held_of p t)
       unfolding sample_from
-      sample_end a q = go_on v _ steps_answer f (q ∙ ap (λ (y : Bool). refuse_at 19 (p.kernel.control + p.kernel.sample) (not y)) end_is)
+      sample_end a q = go_on _ steps_answer f (q ∙ ap (λ (y : Bool). refuse_at 19 (p.kernel.control + p.kernel.sample) (not y)) end_is)
 
       pub sample_missing : (position : ℕ) → not b ≡ true → position ≡ p.kernel.control + p.kernel.sample
-          → answer_of (Refused (R.StepRefused position)) ≡ sample_from M (held_of p t)
+          → answer_of {A = Unit} (Err (R.StepRefused position)) ≡ sample_from M (held_of p t)
       sample_missing position h q = sample_end _ (rw q (sym (refuse_at_on 19 _ h)))
 
-      pub sample_done : not b ≡ false → answer_of Valid ≡ sample_from M (held_of p t)
+      pub sample_done : not b ≡ false → answer_of {A = Unit} (Ok tt) ≡ sample_from M (held_of p t)
       sample_done h = sample_end _ (sym (refuse_at_off 19 _ h))
 
   -- the control phase
-  module _ (t₁ t₂ : List ℕ) (v : Verdict) (z : held_of p t₁ ≡ emptied M)
+  module _ (t₁ t₂ : List ℕ) (v : Result Unit Refusal) (z : held_of p t₁ ≡ emptied M)
       (w : Walked p nodes updates stores steps instructions Control 0 p.kernel.control t₁ t₂ v) where
     control_answer_lem : answer_of v ≡ in_order (phase_answer M Control (emptied M) 0 p.kernel.control) p.kernel.control
     control_answer_lem = w.answers ∙ rw z
 
-    pub list_stop : {r : Refusal} → v ≡ Refused r → answer_of v ≡ walk_answer M
-    list_stop f = hand_on v _ control_answer_lem f ∙ walk_is M
+    pub list_stop : (r : Result Unit Refusal) {x : Refusal} → v ≡ Err x → IsErrAnd r (λ y. y ≡ x) → answer_of r ≡ walk_answer M
+    list_stop r f h = hand_on r _ control_answer_lem f h ∙ walk_is M
 
-    pub list_on : v ≡ Valid → (a : Answer Unit) → a ≡ sample_from M (held_of p t₂) → a ≡ walk_answer M
-    list_on f a q = go_on v _ control_answer_lem f (q ∙ ap (sample_from M) (w.holds f ∙ rw z)) ∙ walk_is M
+    pub list_on : v ≡ Ok tt → (a : Answer Unit) → a ≡ sample_from M (held_of p t₂) → a ≡ walk_answer M
+    list_on f a q = go_on _ control_answer_lem f (q ∙ ap (sample_from M) (w.holds f ∙ rw z)) ∙ walk_is M

@@ -3,223 +3,125 @@
 
 mod mask;
 mod moves;
-mod plan;
 mod table;
 mod walk;
 
-ghost use Rattle.std.specs.Prelude.{◌≡◌, ◌≤◌};
+ghost use Rattle.std.specs.Prelude.{◌≡◌, ◌≤◌, length};
 ghost use Rattle.answers.specs.Numbers.{accepted, answer_of};
-ghost use Rattle.block.specs.Block.{block};
+ghost use Rattle.block.specs.Block.{the_block, parameter_count};
 ghost use Rattle.checker.specs.Walk.{walk_answer};
 ghost use Rattle.checker.specs.Check.{tables, outcome, shorter, check_judged, check_call};
 ghost use Rattle.checker.specs.Plan.{planned_listing, Planned};
 
-use answers::{Refusal, Verdict};
-use block::{Header, kinds};
-use kernel::Kernel;
+use answers::Refusal;
+use block::{Block, Counts, kinds};
+use expand::{map, valid};
+use kernel::Code;
+use table::Terms;
 
-// What a list is checked by, besides tables: the counts of expanded nodes, parameters, states and delays, the output's node, the mask and the kernel.
+// A step list with what it is checked against: the terms, the expanded nodes and, of each state and each delay, the update. The terms have the counts of these
+// slices beside them, since a store in the work table goes by the counts and is lent no slice (`table_after` of specs/Table.antt).
 #[derive(Clone, Copy)]
-struct Terms {
-    pub count: usize,
-    pub parameters: usize,
-    pub states: usize,
-    pub delays: usize,
-    pub output: u32,
-    pub mask: u32,
-    pub kernel: Kernel,
+struct Listing<'a> {
+    pub terms: Terms,
+    pub nodes: &'a [u32],
+    pub updates: &'a [u32],
+    pub stores: &'a [u32],
+    pub steps: &'a [u32],
+    pub instructions: &'a [u32],
 }
 
 // A table shorter than its declared count, or than so many nodes, states and delays ask for. Sums of declared counts need 64 bits.
-fn shorter(
-    kernel: Kernel,
-    nodes: usize,
-    states: usize,
-    delays: usize,
-    expansion: usize,
-    steps: usize,
-    instructions: usize,
-    work: usize,
-) -> bool
-    requires { (nodes ≤ 65537) × ((states ≤ 4096) × (delays ≤ 4096)) }
-    ensures { result ≡ shorter kernel nodes states delays expansion steps instructions work }
+#[tactic(auto, unfolding(crate::specs::Check::shorter))]
+fn shorter(code: &Code<'_>, nodes: usize, counts: Counts, expansion: usize, work: usize) -> bool
+    requires { (nodes ≤ 65537) × ((counts.states ≤ 4096) × (counts.delays ≤ 4096)) }
+    ensures { result ≡ shorter code.now.kernel nodes counts.states counts.delays expansion (length code.now.steps.now) (length code.now.instructions.now) work }
 {
-    let control = kernel.control as usize;
-    let sample = kernel.sample as usize;
-    let coded = kernel.instructions as usize;
-    let slots = kernel.slots as usize;
-    let spills = kernel.spills as usize;
-    if expansion < 3 * nodes {
-        return true;
-    }
-    if steps < 2 * (control + sample) {
-        return true;
-    }
-    if instructions < 2 * coded {
-        return true;
-    }
-    work < 8 * nodes + 8 * (states + delays) + 320 + (slots + spills)
+    let kernel = code.kernel;
+    let listed = kernel.control as usize + kernel.sample as usize;
+    let slots = kernel.slots as usize + kernel.spills as usize;
+    expansion < 3 * nodes
+        || code.steps.len() < 2 * listed
+        || code.instructions.len() < 2 * (kernel.instructions as usize)
+        || work < 8 * nodes + 8 * (counts.states + counts.delays) + 320 + slots
 }
 
 // The refusals 1 to 13 of a call, from the lengths and words of its tables.
-fn judge(
-    header: Header,
-    parameters: &[u32],
-    states: &[u32],
-    delays: &[u32],
-    nodes: &[u32],
-    kernel: Kernel,
-    steps: &[u32],
-    instructions: &[u32],
-    expansion: &[u32],
-    work: &[u32],
-) -> Verdict
-    ensures { answer_of result ≡ check_judged (block header parameters.now states.now delays.now nodes.now) kernel steps.now instructions.now (tables expansion.now work.now) }
+fn judge(block: &Block<'_>, code: &Code<'_>, expansion: &[u32], work: &[u32]) -> Result<(), Refusal>
+    ensures { answer_of result ≡ check_judged (the_block block.now) code.now.kernel code.now.steps.now code.now.instructions.now (tables expansion.now work.now) }
 {
-    let verdict = block::validate(header, parameters, states, delays, nodes);
-    let Verdict::Valid = verdict else {
-        return verdict;
-    };
-    let count = kinds::expanded_length(nodes);
-    if shorter(
-        kernel,
-        count,
-        states.len() / 2,
-        delays.len() / 2,
-        expansion.len(),
-        steps.len(),
-        instructions.len(),
-        work.len(),
-    ) {
-        return Verdict::Refused(Refusal::TableTooShort);
+    block.validate()?;
+    let nodes = kinds::expanded_length(block.nodes);
+    if shorter(code, nodes, block.counts(), expansion.len(), work.len()) {
+        return Err(Refusal::TableTooShort);
     }
-    Verdict::Valid
+    Ok(())
 }
 
 // The walk over the list of a block that is expanded. The work table begins with the map of nodes.
 fn walk_block(
-    parameters: usize,
-    count: usize,
-    last: u32,
-    states: &[u32],
-    delays: &[u32],
+    block: &Block<'_>,
     mask: u32,
-    kernel: Kernel,
-    steps: &[u32],
-    instructions: &[u32],
+    code: &Code<'_>,
+    count: usize,
     expansion: &[u32],
     work: &mut [u32],
-) -> Verdict
-    requires { Planned count parameters expansion.now work.old last states.now delays.now mask kernel steps.now instructions.now }
-    ensures { answer_of result ≡ walk_answer (planned_listing count parameters expansion.now work.old last states.now delays.now mask kernel steps.now instructions.now) }
+) -> Result<(), Refusal>
+    requires { Planned count (parameter_count (the_block block.now)) expansion.now work.old block.now.header.output block.now.states.now block.now.delays.now mask code.now.kernel code.now.steps.now code.now.instructions.now }
+    ensures { answer_of result ≡ walk_answer (planned_listing count (parameter_count (the_block block.now)) expansion.now work.old block.now.header.output block.now.states.now block.now.delays.now mask code.now.kernel code.now.steps.now code.now.instructions.now) }
 {
-    let updates = plan::mapped_updates(states, &work[..]);
-    let stores = plan::mapped_updates(delays, &work[..]);
-    let at = last as usize;
-    let output = work[at];
-    let held = states.len() / 2;
-    let lines = delays.len() / 2;
-    let end = 3 * count;
+    let updates = map::mapped_updates(block.states, &work[..]);
+    let stores = map::mapped_updates(block.delays, &work[..]);
+    let counts = block.counts();
     let terms = Terms {
         count,
-        parameters,
-        states: held,
-        delays: lines,
-        output,
+        parameters: counts.parameters,
+        states: counts.states,
+        delays: counts.delays,
+        output: work[block.header.output as usize],
         mask,
-        kernel,
+        kernel: code.kernel,
     };
-    walk::walk_list(
+    let list = Listing {
         terms,
-        &expansion[..end],
-        &updates[..held],
-        &stores[..lines],
-        steps,
-        instructions,
-        work,
-    )
+        nodes: &expansion[..3 * count],
+        updates: &updates[..terms.states],
+        stores: &stores[..terms.delays],
+        steps: code.steps,
+        instructions: code.instructions,
+    };
+    walk::walk_list(&list, work)
 }
 
 // A call that 1 to 13 do not refuse: the expansion, the walk, and zeros in the work table whether the list passes or not.
 fn review(
-    header: Header,
-    parameters: &[u32],
-    states: &[u32],
-    delays: &[u32],
-    nodes: &[u32],
+    block: &Block<'_>,
     mask: u32,
-    kernel: Kernel,
-    steps: &[u32],
-    instructions: &[u32],
+    code: &Code<'_>,
     expansion: &mut [u32],
     work: &mut [u32],
-) -> Verdict
-    requires { check_judged (block header parameters.now states.now delays.now nodes.now) kernel steps.now instructions.now (tables expansion.old work.old) ≡ accepted tt }
-    ensures { outcome (answer_of result) (tables expansion.new work.new) ≡ check_call (block header parameters.now states.now delays.now nodes.now) mask kernel steps.now instructions.now (tables expansion.old work.old) }
+) -> Result<(), Refusal>
+    requires { check_judged (the_block block.now) code.now.kernel code.now.steps.now code.now.instructions.now (tables expansion.old work.old) ≡ accepted tt }
+    ensures { outcome (answer_of result) (tables expansion.new work.new) ≡ check_call (the_block block.now) mask code.now.kernel code.now.steps.now code.now.instructions.now (tables expansion.old work.old) }
 {
-    let count = kinds::expanded_length(nodes);
-    let last = header.output;
-    expand::expand(header, parameters, states, delays, nodes, expansion);
-    expand::map_nodes(nodes, work);
-    let verdict = walk_block(
-        parameters.len() / 3,
-        count,
-        last,
-        states,
-        delays,
-        mask,
-        kernel,
-        steps,
-        instructions,
-        expansion,
-        work,
-    );
+    let count = kinds::expanded_length(block.nodes);
+    valid::expand(block, expansion)?;
+    expand::map_nodes(block.nodes, work);
+    let verdict = walk_block(block, mask, code, count, expansion, work);
     tables::zero(work);
     verdict
 }
 
 // Whether a list of steps computes what a block's graph does: an answer, the expanded nodes, and zeros in the work table.
 pub fn check(
-    header: Header,
-    parameters: &[u32],
-    states: &[u32],
-    delays: &[u32],
-    nodes: &[u32],
+    block: &Block<'_>,
     mask: u32,
-    kernel: Kernel,
-    steps: &[u32],
-    instructions: &[u32],
+    code: &Code<'_>,
     expansion: &mut [u32],
     work: &mut [u32],
-) -> Verdict
-    ensures { outcome (answer_of result) (tables expansion.new work.new) ≡ check_call (block header parameters.now states.now delays.now nodes.now) mask kernel steps.now instructions.now (tables expansion.old work.old) }
+) -> Result<(), Refusal>
+    ensures { outcome (answer_of result) (tables expansion.new work.new) ≡ check_call (the_block block.now) mask code.now.kernel code.now.steps.now code.now.instructions.now (tables expansion.old work.old) }
 {
-    let verdict = judge(
-        header,
-        parameters,
-        states,
-        delays,
-        nodes,
-        kernel,
-        steps,
-        instructions,
-        expansion,
-        work,
-    );
-    let Verdict::Valid = verdict else {
-        return verdict;
-    };
-    review(
-        header,
-        parameters,
-        states,
-        delays,
-        nodes,
-        mask,
-        kernel,
-        steps,
-        instructions,
-        expansion,
-        work,
-    )
+    judge(block, code, expansion, work)?;
+    review(block, mask, code, expansion, work)
 }

@@ -14,7 +14,7 @@ use Rattle.tables.specs.Tests.{◌&◌, true_false}
 use Rattle.tables.specs.Zeros.{zeros, zeros_at, zeros_length}
 use Rattle.block.specs.Block.{code}
 use Rattle.block.specs.Limits.{most_nodes}
-use Rattle.block.specs.Validation.{Counts}
+use Rattle.block.specs.declared.Counts.{Counts}
 use Rattle.expand.specs.Graph.{Graph}
 use Rattle.expand.specs.Good.{good_operands, good_primitive, primitive}
 use Rattle.expand.specs.GraphLaws.{GoodGraph}

@@ -2,8 +2,10 @@
 -- Operands are numbers of nodes, and the later operand says which cell: nodes that stand near each other have cells near each other, so that a table read in the
 -- order of its nodes stays in the cache. A word past all of that, as a constant's bits, is spread over the cells. Nothing but speed depends on the choice.
 -- Assumes nothing.
-use Rattle.std.specs.Prelude.{◌≡◌, refl, Bool, true, false, cond, ℕ, ◌+◌, ◌*◌, ◌/◌, ◌%◌, ◌≤◌, ◌<◌, ltb}
-use Rattle.std.proofs.Common.{sym, ap, ◌∙◌, mod-lt, mul-le-mul_right, arith, ltb-true}
+use Rattle.std.specs.Prelude.{◌≡◌, refl, Bool, true, false, cond, ℕ, ◌+◌, ◌*◌, ◌/◌, ◌%◌, ◌≤◌, ◌<◌, ltb, max}
+use Rattle.std.proofs.Common.{sym, ap, ◌∙◌, mod-lt, mul-le-mul_right, arith, ltb-true, lt-ltb, le-ltb}
+use Rattle.std.proofs.Math.Decide.{dec_lt}
+use Rattle.std.proofs.Math.Nat.{max-eq_left, max-eq_right}
 use Rattle.std.proofs.Math.Arith.{digits_div}
 
 -- the words of the index: a class, two keys and two cells for each node, and 32 times `buckets count` cells where walks begin. What lies behind is the caller's
@@ -17,6 +19,15 @@ buckets count = count / 16 + 1
 -- the larger of two words: of two operands the later
 unfoldable pub later : ℕ → ℕ → ℕ
 later x y = cond (ltb x y) y x
+
+-- which std's `max` finds
+pub later_max : (x y : ℕ) → max x y ≡ later x y
+unfolding later
+later_max x y = go (dec_lt x y)
+  where
+    go : Dec (x < y) → max x y ≡ cond (ltb x y) y x
+    go (yes h) = rw (lt-ltb x y h) (max-eq_right (omega arith))
+    go (no h) = rw (le-ltb x y (omega arith)) (max-eq_left (omega arith))
 
 -- which of a code's cells is that of a word
 unfoldable pub bucket_of : ℕ → ℕ → ℕ

@@ -1,17 +1,16 @@
 -- A call of compile: its answer and every word of the four lent tables afterwards. Definitions alone.
 use Rattle.std.specs.Prelude.{Bool, ◌||◌, List, [], ◌++◌, ℕ, ◌+◌, ◌-◌, ◌*◌, length, drop, ltb}
 use Rattle.tables.specs.Zeros.{zeros}
-use Rattle.answers.specs.Numbers.{Answer, accepted, refused, refusal}
+use Rattle.answers.specs.Numbers.{Answer, accepted, refused}
 use Rattle.answers.specs.Order.{◌⨾◌, refuse}
 use Rattle.block.specs.Block.{Block, state_count, delay_count}
 use Rattle.block.specs.Validation.{expanded_length, validation}
 use Rattle.expand.specs.Graph.{graph_of}
-use Rattle.kernel.specs.declared.Kernel.{Kernel}
 use Rattle.allocate.specs.State.{Allocated, allocated, all_locked}
-use Rattle.compile.specs.declared.Compilation.{Compilation}
-use Rattle.compile.specs.declared.Compilation.TheVariants.{Accepted, Refused}
 use Rattle.compile.specs.Words.{Compiled}
 use Rattle.compile.specs.Compile.{compile}
+-- what an accepted call gives, as the code has it: the five counts, and "the most registers held at once over both phases"
+pub use Rattle.compile.specs.declared.Compiled.{Compiled as Done}
 
 -- ---- 13: "With S states and D delays, compile's step and instruction tables need 2×(7N+5(S+D+1)) words each and its work table
 -- 32N+16(S+D)+320"
@@ -54,16 +53,6 @@ too_short b t =
     shorter (expanded_length b) (memory_count b) (length t.expansion) (length t.steps) (length t.instructions) (length t.work)
 
 -- ---- the answer
-
--- what an accepted call gives: the five counts, and "the most registers held at once over both phases"
-pub record Done : Type 0 where
-  pub kernel : Kernel
-  pub registers : ℕ
-
--- the code's answer
-abbrev pub answer_of : Compilation → Answer Done
-answer_of (Accepted c) = accepted (record { kernel = c.kernel; registers = c.registers })
-answer_of (Refused r) = refusal r
 
 -- the refusals before anything is written: 1 to 13
 unfoldable pub compile_judged : Block → Tables → Answer Unit

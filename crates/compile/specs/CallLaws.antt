@@ -1,25 +1,24 @@
 -- The call: each way out of the tests, what an accepted call lends both phases, and what it leaves. Assumes nothing.
-use Rattle.std.specs.Prelude.{◌≡◌, Bool, true, false, List, [], ◌++◌, ℕ, ◌+◌, ◌-◌, ◌*◌, ◌≤◌, ◌<◌, min, get_or, take, drop, ltb}
+use Rattle.std.specs.Prelude.{◌≡◌, Result, Ok, Err, IsErrAnd, Bool, true, false, List, [], ◌++◌, ℕ, ◌+◌, ◌-◌, ◌*◌, ◌≤◌, ◌<◌, min, get_or, take, drop, ltb}
 use Rattle.std.proofs.Math.Path.{refl, ap}
 use Rattle.std.proofs.Common.{sym, ◌∙◌, subst, arith, length-append, length-drop, take_at}
 use Rattle.std.proofs.Math.ListN.{length, get_or-append}
 use Rattle.std.proofs.lemmas.List.Edits.{sets, sets-eq}
 use Rattle.std.proofs.Math.Seq.{length-sets}
+use Rattle.std.proofs.lemmas.Result.{err_from_is_err_and}
 use borrow.Author.Tests.{lt-ltb, le-ltb}
 use Rattle.tables.specs.Lists.{list_length, list_at}
 use Rattle.tables.specs.Zeros.{zeros, zeros_length, zeros_at, zeroed, zeroed_all, zeroed_rest}
-use Rattle.answers.specs.declared.Verdict.{Verdict}
-use Rattle.answers.specs.declared.Verdict.TheVariants as Verdicts
 use Rattle.answers.specs.declared.Refusal.{Refusal}
-use Rattle.answers.specs.Numbers as Numbers
-use Rattle.answers.specs.Numbers.{Answer, accepted, refused, refusal}
+use Rattle.answers.specs.Numbers.{Answer, accepted, refused, refusal, answer_of}
 use Rattle.answers.specs.Order.{◌⨾◌}
 use Rattle.answers.specs.OrderLaws.{then_accepted, refuse_accepted, then_pass, refuse_pass, refuse_on, refuse_off, hand_on, go_on}
 use Rattle.block.specs.declared.Kind.{Kind}
 use Rattle.block.specs.declared.Kind.TheVariants.{Source, Constant, Parameter, State, Delay, Binary, Divide, Unary, Recip, Tanh, Sigmoid, Unknown}
 use Rattle.block.specs.Block.{Block, node_count, state_count, delay_count, code}
 use Rattle.block.specs.Kinds.{kind_of, tanh_steps}
-use Rattle.block.specs.Validation.{Counts, counts_of, expanded_length, validation}
+use Rattle.block.specs.declared.Counts.{Counts}
+use Rattle.block.specs.Validation.{counts_of, expanded_length, validation}
 use Rattle.block.specs.Valid.{Valid, valid}
 use Rattle.expand.specs.declared.Expanded.{Expanded}
 use Rattle.expand.specs.Nodes.{words_of}
@@ -35,12 +34,11 @@ use Rattle.plan.specs.Layout.{counts_in}
 use Rattle.plan.specs.Flow.{flow_of}
 use Rattle.plan.specs.ControlShare.{flow_in}
 use Rattle.allocate.specs.State.{Allocated, allocated, all_locked}
-use Rattle.compile.specs.declared.Compilation.{Compilation}
 use Rattle.compile.specs.Words as Words
 use Rattle.compile.specs.Compile.{compile}
-use Rattle.compile.specs.Call.{Tables, tables, outcome, most_steps, memory_count, shorter, too_short, answer_of, compile_judged, compile_answer, compiled_answer, compiled_tables, tables_after, compile_call, zero_past}
+use Rattle.compile.specs.Call.{Tables, tables, outcome, most_steps, memory_count, shorter, too_short, Done, compile_judged, compile_answer, compiled_answer, compiled_tables, tables_after, compile_call, zero_past}
 use Rattle.compile.specs.Bounds.{Room, room, compile_bounds}
-use Rattle.compile.specs.Updates.{mapped_updates, IsMap, updates_are, mappable}
+use Rattle.expand.specs.Updates.{mapped_updates, IsMap, updates_are, mappable}
 use Rattle.compile.specs.Phases as Phases
 use Rattle.compile.specs.Phases.{Lent}
 use Rattle.compile.specs.Expanded.{flow_compiled, PhasesLeave, sizes_from, mapped_flow, Mapped, step_end, instruction_end, Cleared}
@@ -71,39 +69,42 @@ module _ (nodes memories expansion steps instructions work : ℕ) where
 -- ---- the ways out of the tests. v is validation's verdict, n the expanded length as the code counts it
 
 -- a valid block has few states and delays
-pub few : (b : Block) (v : Verdict) → Numbers.answer_of v ≡ validation b → v ≡ Verdicts.Valid → (state_count b ≤ 4096) × (delay_count b ≤ 4096)
-few b v e f = let w = valid b (sym e ∙ ap Numbers.answer_of f) in (w.state_limit, w.delay_limit)
+pub few : (b : Block) (v : Result Unit Refusal) → answer_of v ≡ validation b → v ≡ Ok tt → (state_count b ≤ 4096) × (delay_count b ≤ 4096)
+few b v e f = let w = valid b (sym e ∙ ap answer_of f) in (w.state_limit, w.delay_limit)
 
-module _ (b : Block) (t : Tables) (v : Verdict) (e : Numbers.answer_of v ≡ validation b) where
-  pub refused_block : {r : Refusal} → v ≡ Verdicts.Refused r → Numbers.answer_of v ≡ compile_judged b t
+module _ (b : Block) (t : Tables) (v : Result Unit Refusal) (e : answer_of v ≡ validation b) where
+  pub refused_block : (r : Result Unit Refusal) {x : Refusal} → v ≡ Err x → IsErrAnd r (λ y. y ≡ x) → answer_of r ≡ compile_judged b t
   unfolding compile_judged
-  refused_block f = hand_on v _ e f
+  refused_block r f h = hand_on r _ e f h
 
-  module _ (f : v ≡ Verdicts.Valid) (n : ℕ) (c : n ≡ min (expanded_length b) 65537) (d : Bool)
+  module _ (f : v ≡ Ok tt) (n : ℕ) (c : n ≡ min (expanded_length b) 65537) (d : Bool)
       (g : d ≡ shorter n (memory_count b) (length t.expansion) (length t.steps) (length t.instructions) (length t.work)) where
     is_short : d ≡ too_short b t
     is_short =
-        let w = (valid b (sym e ∙ ap Numbers.answer_of f)).fits in
+        let w = (valid b (sym e ∙ ap answer_of f)).fits in
         let q : n ≡ expanded_length b = omega arith in
         g ∙ ap (λ (m : ℕ). shorter m (memory_count b) (length t.expansion) (length t.steps) (length t.instructions) (length t.work)) q
 
     pub short_table : d ≡ true → refused 13 [] ≡ compile_judged b t
     unfolding compile_judged
-    short_table h = go_on v _ e f (sym (refuse_on 13 (sym is_short ∙ h)))
+    short_table h = go_on _ e f (sym (refuse_on 13 (sym is_short ∙ h)))
 
     pub all_long : d ≡ false → accepted tt ≡ compile_judged b t
     unfolding compile_judged
-    all_long h = go_on v _ e f (sym (refuse_off 13 (sym is_short ∙ h)))
+    all_long h = go_on _ e f (sym (refuse_off 13 (sym is_short ∙ h)))
 
 -- a refusal by 1 to 13 hands the tables back as they came
-pub refused_call : (b : Block) (mask : ℕ) (t : Tables) (v : Verdict) (r : Refusal) → Numbers.answer_of v ≡ compile_judged b t → v ≡ Verdicts.Refused r
-    → outcome (refusal r) t ≡ compile_call b mask t
+pub refused_call : (b : Block) (mask : ℕ) (t : Tables) (v : Result Unit Refusal) (r : Result Done Refusal) {x : Refusal} → answer_of v ≡ compile_judged b t → v ≡ Err x
+    → IsErrAnd r (λ y. y ≡ x) → outcome (answer_of r) t ≡ compile_call b mask t
 unfolding compile_call compile_answer tables_after ◌⨾◌
-refused_call b mask t v r e f = let a : compile_judged b t ≡ refusal r = sym e ∙ ap Numbers.answer_of f in rw a
+refused_call b mask t v r {x} e f h =
+    let a : compile_judged b t ≡ refusal x = sym e ∙ ap answer_of f in
+    let p = err_from_is_err_and r h in
+    rw (a, p.1, p.2)
 
 -- every other call is built
-pub passed_call : (b : Block) (t : Tables) (v : Verdict) → Numbers.answer_of v ≡ compile_judged b t → v ≡ Verdicts.Valid → compile_judged b t ≡ accepted tt
-passed_call b t v e f = sym e ∙ ap Numbers.answer_of f
+pub passed_call : (b : Block) (t : Tables) (v : Result Unit Refusal) → answer_of v ≡ compile_judged b t → v ≡ Ok tt → compile_judged b t ≡ accepted tt
+passed_call b t v e f = sym e ∙ ap answer_of f
 
 -- ---- what an accepted call is
 pub record Accepts (b : Block) (t : Tables) : Type 0 where
@@ -148,6 +149,15 @@ expanded_table b t a x e p =
     ap (λ (y : E.Outcome). y.table) p ∙ rw q
 
 module _ (b : Block) (t : Tables) (a : Accepts b t) where
+  -- .. and is not refused
+  pub expands : (x : Result Expanded Refusal) (e : List ℕ) {r : Refusal} → E.outcome (answer_of x) e ≡ E.expand_call b t.expansion → x ≡ Err r → ⊥
+  unfolding E.expand_call E.expand_answer
+  expands x e {r} p f =
+      let done : Answer Expanded = accepted (record { length = expanded_length b; output = E.mapped_output b }) in
+      let q : E.expand_answer b (length t.expansion) ≡ done = then_pass _ a.judged ∙ refuse_pass 13 _ (le-ltb _ _ a.room.expansion) in
+      let z : refusal r ≡ done = sym (ap answer_of f) ∙ (ap (λ (y : E.Outcome). y.answer) p ∙ q) in
+      absurd (let y : ◌≡◌ {A = ℕ} 0 1 = cc in omega arith)
+
   pub begun : (count : ℕ) (x : Answer Expanded) (e m : List ℕ) (done : Bool) → count ≡ min (expanded_length b) 65537
       → E.outcome x e ≡ E.expand_call b t.expansion → mapping done m ≡ map_call b.nodes t.work → Begun b t count e m
   begun count x e m done c o q =
@@ -254,7 +264,7 @@ module _ (count last : ℕ) (states delays expansion steps instructions map : Li
         clear = λ j. rw ew (zeros_at (length map) j);
       }
 
-  pub mapped_leave : (mask : ℕ) (r : Compilation) (x y : List ℕ)
+  pub mapped_leave : (mask : ℕ) (r : Result Done Refusal) (x y : List ℕ)
       → PhasesLeave (flow_compiled (flow_in (sizes_from count states delays) (take (3 * count) expansion) u s (get_or map last 0)) mask) steps instructions r x y
       → PhasesLeave (flow_compiled (mapped_flow count last states delays expansion map) mask) steps instructions r x y
   mapped_leave mask r x y p = rw (eu, es) at p
@@ -279,7 +289,7 @@ unfolding compile_call compile_answer tables_after ◌⨾◌
 accepted_call b mask t j = rw j
 
 module _ (b : Block) (mask : ℕ) (t : Tables) (a : Accepts b t) (e : List ℕ) (expanded : e ≡ (graph_of b).nodes ++ drop (3 * expanded_length b) t.expansion)
-    (r : Compilation) (s i w s' i' w' : List ℕ) (steps : length s ≡ length t.steps) (instructions : length i ≡ length t.instructions)
+    (r : Result Done Refusal) (s i w s' i' w' : List ℕ) (steps : length s ≡ length t.steps) (instructions : length i ≡ length t.instructions)
     (work : length w ≡ length t.work) (clear : Cleared r s i w s' i' w') where
   left : (x : Allocated Words.Compiled) → compile (graph_of b) mask ≡ x → PhasesLeave x t.steps t.instructions r s i
       → outcome (answer_of r) (tables e s' i' w') ≡ outcome (compiled_answer x) (compiled_tables x b t)
@@ -303,7 +313,7 @@ module _ (b : Block) (mask : ℕ) (t : Tables) (a : Accepts b t) (e : List ℕ) 
 
 -- WHAT AN ACCEPTED CALL LEAVES
 pub built_call : (b : Block) (mask : ℕ) (t : Tables) (a : Accepts b t) (count : ℕ) (e m : List ℕ) → Begun b t count e m
-    → (r : Compilation) (s i w s' i' w' : List ℕ)
+    → (r : Result Done Refusal) (s i w s' i' w' : List ℕ)
     → PhasesLeave (flow_compiled (mapped_flow count b.header.output b.states b.delays e m) mask) t.steps t.instructions r s i
     → length s ≡ length t.steps → length i ≡ length t.instructions → length w ≡ length t.work → Cleared r s i w s' i' w'
     → compile_judged b t ≡ accepted tt → outcome (answer_of r) (tables e s' i' w') ≡ compile_call b mask t

@@ -5,7 +5,6 @@ pub mod Words
 pub mod Compile
 pub mod Call
 -- as the code has it: how each phase ends, the expanded block through the map, zeros behind the kernel
-pub mod Updates
 pub mod Phases
 pub mod Expanded
 -- with three usable registers there is a kernel: `compile_gives`, `call_accepts`

@@ -1,5 +1,5 @@
 -- Each way through the two phases: what their calls ask for, how each ends, and what both leave. Assumes nothing.
-use Rattle.std.specs.Prelude.{◌≡◌, true, ℕ, zero, suc, ◌+◌, ◌-◌, ◌*◌, ◌≤◌, ◌<◌, replicate}
+use Rattle.std.specs.Prelude.{◌≡◌, Ok, Err, true, ℕ, zero, suc, ◌+◌, ◌-◌, ◌*◌, ◌≤◌, ◌<◌, replicate}
 use Rattle.std.proofs.Math.Path.{refl, sym, ap}
 use Rattle.std.proofs.Common.{◌∙◌, subst, inl, arith, length-append}
 use Rattle.std.proofs.Math.Bool.{false}
@@ -22,7 +22,6 @@ use Rattle.plan.specs.ControlShare.{flow_in, needed_of, control_count, control_t
 use Rattle.plan.specs.Shares.{SampleBegins, SampleShare}
 use Rattle.allocate.specs.declared.Frame.{Frame}
 use Rattle.allocate.specs.declared.Allocator.{Allocator}
-use Rattle.allocate.specs.declared.Ended.{Ended}
 use Rattle.allocate.specs.Actions.{Action}
 use Rattle.allocate.specs.ActionWords.{operations_in, step_words, instruction_words}
 use Rattle.allocate.specs.State.{Allocated, allocated, all_locked, Setting, State, begin}
@@ -31,21 +30,20 @@ use Rattle.allocate.specs.Outcomes.{post_at}
 use Rattle.allocate.specs.Layout.{Wide}
 use Rattle.allocate.specs.Desk.{Desk, desk, Choice}
 use Rattle.allocate.specs.Tasks as Tasks
-use Rattle.allocate.specs.Tasks.{lent, ran_to, ended, outcome_of}
+use Rattle.allocate.specs.Tasks.{Ended, lent, ran_to, ended, outcome_of}
 use Rattle.allocate.specs.Planned.{Planned}
 use Rattle.allocate.specs.TaskReady.{PhaseFits, ran_to_kept}
 use Rattle.allocate.specs.Links.{linked}
 use Rattle.allocate.specs.Holds.{Holds}
 use Rattle.allocate.specs.HoldsArms.{Done}
 use Rattle.allocate.specs.HoldsPhase.{phase_holds, ended_done, ended_not}
-use Rattle.compile.specs.declared.Compilation.TheVariants.{Accepted, Refused}
 use Rattle.compile.specs.declared.Compiled.{Compiled}
 use Rattle.compile.specs.Draft.{control_setting, sample_setting, draft_of, compile_plan, compile_flow}
 use Rattle.compile.specs.Words.{compiled_of}
 use Rattle.compile.specs.PhasesFit.{DraftFits, flow_fits}
 use Rattle.compile.specs.Bounds.{operations_le}
 use Rattle.compile.specs.PhaseTables.{frame_in, new_allocator, PhaseRegions, PhaseOpens, opens_linked, opens_planned, flow_good, flow_count, flow_states, flow_delays, slots_count, needed_count, control_prior, sample_regions, control_regions, control_needed, control_opens, control_starts, control_asks, sample_opens, sample_starts, sample_asks}
-use Rattle.compile.specs.Phases.{Lent, Begun, control_run, ControlDone, ControlEnds, ControlLeft, BothDone, SampleEnds, Ends, counted_of}
+use Rattle.compile.specs.Phases.{Lent, Begun, control_run, ControlDone, ControlEnds, ControlLeft, BothDone, SampleEnds, SampleDone, Ends, counted_of}
 use Rattle.compile.specs.Expanded.{flow_compiled, PhasesLeave}
 
 -- ---- Generic
@@ -214,6 +212,17 @@ module _ (sizes : Sizes) (nodes updates stores : List ℕ) (output mask : ℕ) w
             let p = rw (fixed, count) at q in
             done w s i r same p (control_run flow mask) refl (held_as w s i r same p)
 
+        -- .. where all is done, in tables under other names; and where a task is refused
+        pub control_done : (w s i x y z : List ℕ) (a : Allocator) → ended w s i (record { done = true; allocator = a })
+            ≡ outcome_of (ran_to frame l (desk w₃ steps instructions (new_allocator slots 0 0)) tasks)
+            → length w ≡ length w₀ → x ≡ w → y ≡ s → z ≡ i → ControlDone sizes flow mask steps instructions x y z a
+        control_done w s i x y z a q same p e f = rw (p, e, f) ((control_end w s i (record { done = true; allocator = a }) same q).0 refl)
+
+        pub control_locked : (w s i : List ℕ) (a : Allocator) → ended w s i (record { done = false; allocator = a })
+            ≡ outcome_of (ran_to frame l (desk w₃ steps instructions (new_allocator slots 0 0)) tasks)
+            → length w ≡ length w₀ → compile_flow flow mask ≡ all_locked
+        control_locked w s i a q same = (control_end w s i (record { done = false; allocator = a }) same q).1 refl
+
   -- ---- the sample phase: from w₀ all but the plan of both is zeroed in w₁, the plan's share is w₂, the links of its tasks w₃
 
   module _ (w₀ steps instructions : List ℕ) (before : Allocator) (x : Lent sizes nodes updates stores output (length w₀) (length steps) (length instructions))
@@ -328,10 +337,21 @@ module _ (sizes : Sizes) (nodes updates stores : List ℕ) (output mask : ℕ) w
             → SampleEnds sizes flow mask w₀ steps instructions before s i r
         sample_end w s i r q table program d = both w s i r q table program d (run w s i r q table program d) refl (sample_as w s i r q table program d)
 
+        -- .. where all is done, in tables under other names; and where a task is refused
+        pub sample_done : (w s i y z : List ℕ) (a : Allocator) → ended w s i (record { done = true; allocator = a })
+            ≡ outcome_of (ran_to sample_frame l (desk w₃ steps instructions (new_allocator 0 before.steps before.instructions)) tasks)
+            → y ≡ s → z ≡ i → SampleDone sizes flow mask w₀ steps instructions before y z a
+        sample_done w s i y z a q e f = rw (e, f) (λ table program d. (sample_end w s i (record { done = true; allocator = a }) q table program d).0 refl)
+
+        pub sample_locked : (w s i : List ℕ) (a : Allocator) → ended w s i (record { done = false; allocator = a })
+            ≡ outcome_of (ran_to sample_frame l (desk w₃ steps instructions (new_allocator 0 before.steps before.instructions)) tasks)
+            → compile_flow flow mask ≡ all_locked
+        sample_locked w s i a q = (sample_end w s i (record { done = false; allocator = a }) q c.table c.program c.done).1 refl
+
 -- ---- both phases
 
 -- 14
-pub phases_locked : (f : Flow) (mask : ℕ) (table program s i : List ℕ) → compile_flow f mask ≡ all_locked → PhasesLeave (flow_compiled f mask) table program (Refused RegistersLocked) s i
+pub phases_locked : (f : Flow) (mask : ℕ) (table program s i : List ℕ) → compile_flow f mask ≡ all_locked → PhasesLeave (flow_compiled f mask) table program (Err RegistersLocked) s i
 unfolding flow_compiled
 phases_locked f mask table program s i q = rw q refl
 
@@ -353,7 +373,7 @@ module _ (sizes : Sizes) (nodes updates stores : List ℕ) (output mask work ste
       (omega (arith, total, d.control), (most, omega (arith, d.written.number, d.written.count, operations_le (d.draft.control_steps ++ d.draft.sample_steps))))
 
   -- THE KERNEL
-  pub phases_done : (k : Compiled) → k ≡ counted_of before after → PhasesLeave (flow_compiled (flow_in sizes nodes updates stores output) mask) table program (Accepted k) s i
+  pub phases_done : (k : Compiled) → k ≡ counted_of before after → PhasesLeave (flow_compiled (flow_in sizes nodes updates stores output) mask) table program (Ok k) s i
   unfolding flow_compiled compiled_of counted_of
   phases_done k e =
       let z : after.steps - before.steps ≡ length d.draft.sample_steps = omega (arith, total, d.control) in
@@ -363,4 +383,4 @@ module _ (sizes : Sizes) (nodes updates stores : List ℕ) (output mask work ste
             record { control = d.control j; sample = z j; instructions = d.written.number j; slots = d.slots j; spills = d.spills j };
         registers = d.most j;
       } in
-      rw d.gives (ap Accepted (e ∙ q), (d.written.words, d.written.operations))
+      rw d.gives (ap Ok (e ∙ q), (d.written.words, d.written.operations))

@@ -1,5 +1,6 @@
 -- How each phase ends, as the code has it: refused as the definition is, or with the definition's state in the tables. Definitions alone.
 use Rattle.std.specs.Prelude.{◌≡◌, true, false, List, ◌++◌, ℕ, ◌+◌, ◌-◌, ◌*◌, ◌≤◌, ◌<◌, max, length, get_or}
+use Rattle.plan.specs.declared.Flow as Lending
 use Rattle.plan.specs.declared.Sizes.{Sizes}
 use Rattle.plan.specs.Nodes.{Flow}
 use Rattle.plan.specs.Schedule.{plan_of}
@@ -8,7 +9,7 @@ use Rattle.plan.specs.Layout.{Updates, needed_at, slots_at}
 use Rattle.plan.specs.Regions.{Region, flags}
 use Rattle.plan.specs.ControlShare.{needed_of}
 use Rattle.allocate.specs.declared.Allocator.{Allocator}
-use Rattle.allocate.specs.declared.Ended.{Ended}
+use Rattle.allocate.specs.Tasks.{Ended}
 use Rattle.allocate.specs.State.{Allocated, allocated, all_locked, State, begin}
 use Rattle.allocate.specs.Allocator.{allocate}
 use Rattle.allocate.specs.Holds.{Written}
@@ -33,6 +34,13 @@ pub record Lent (sizes : Sizes) (nodes updates stores : List ℕ) (output work s
 pub record Begun (sizes : Sizes) (nodes updates stores : List ℕ) (output : ℕ) (work steps instructions : List ℕ) : Type 0 where
   pub lent : Lent sizes nodes updates stores output (length work) (length steps) (length instructions)
   pub clear : (j : ℕ) → get_or work j 0 ≡ 0
+
+-- the same, of a flow that is lent as a struct
+abbrev pub IsLent : Lending.Flow → ℕ → ℕ → ℕ → Type 0
+IsLent f work steps instructions = Lent f.sizes f.nodes.now f.updates.now f.stores.now f.output work steps instructions
+
+abbrev pub IsBegun : Lending.Flow → List ℕ → List ℕ → List ℕ → Type 0
+IsBegun f work steps instructions = Begun f.sizes f.nodes.now f.updates.now f.stores.now f.output work steps instructions
 
 -- ---- the control phase
 
@@ -73,6 +81,11 @@ pub record BothDone (flow : Flow) (mask : ℕ) (table program : List ℕ) (befor
   pub spills : after.slots ≡ draft.spill_slots
   pub most : max before.most after.most ≡ draft.most
   pub written : Written table program (draft.control_steps ++ draft.sample_steps) steps instructions after.steps after.instructions
+
+-- .. whatever the tables were lent as, where the control phase left `work₀`, `steps₀` and `instructions₀`
+abbrev pub SampleDone : Sizes → Flow → ℕ → List ℕ → List ℕ → List ℕ → Allocator → List ℕ → List ℕ → Allocator → Type 0
+SampleDone sizes flow mask work₀ steps₀ instructions₀ before steps instructions after =
+    (table program : List ℕ) → ControlDone sizes flow mask table program work₀ steps₀ instructions₀ before → BothDone flow mask table program before steps instructions after
 
 -- done, or refused as the definition is, where the control phase left `steps₀` and `instructions₀`
 abbrev pub SampleEnds : Sizes → Flow → ℕ → List ℕ → List ℕ → List ℕ → Allocator → List ℕ → List ℕ → Ended → Type 0

@@ -14,7 +14,8 @@ use Rattle.block.specs.declared.Kind.{Kind}
 use Rattle.block.specs.Block.{Block, state_count, delay_count, code, first, second}
 use Rattle.block.specs.Limits.{most_nodes, most_states, most_delays}
 use Rattle.block.specs.Kinds.{kind_of}
-use Rattle.block.specs.Validation.{Counts, counts_of, expanded_length}
+use Rattle.block.specs.declared.Counts.{Counts}
+use Rattle.block.specs.Validation.{counts_of, expanded_length}
 use Rattle.block.specs.Valid.{Valid}
 use Rattle.expand.specs.Graph.{Graph, mapped_update, graph_of}
 use Rattle.expand.specs.Good.{GoodAs}

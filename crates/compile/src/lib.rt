@@ -3,19 +3,18 @@
 #![tactic(auto)]
 
 mod phases;
-mod updates;
 
 ghost use Rattle.std.specs.Prelude.{◌≡◌, ◌≤◌};
-ghost use Rattle.answers.specs.Numbers as Verdicts;
-ghost use Rattle.answers.specs.Numbers.{accepted};
-ghost use Rattle.block.specs.Block.{block};
-ghost use Rattle.compile.specs.Call.{tables, outcome, shorter, compile_judged, compile_call, answer_of};
+ghost use Rattle.answers.specs.Numbers.{accepted, answer_of};
+ghost use Rattle.block.specs.Block.{the_block};
+ghost use Rattle.compile.specs.Call.{tables, outcome, shorter, compile_judged, compile_call};
 ghost use Rattle.compile.specs.Expanded.{Mapped, mapped_flow, flow_compiled, PhasesLeave};
 
-use answers::{Refusal, Verdict};
-use block::{Header, kinds};
+use answers::Refusal;
+use block::{Block, kinds};
+use expand::{map, valid};
 use kernel::Kernel;
-use plan::Sizes;
+use plan::{Flow, Sizes};
 
 // What an accepted call tells besides the tables: the five counts, and the most registers held at once over both phases.
 #[derive(Clone, Copy)]
@@ -24,14 +23,8 @@ pub struct Compiled {
     pub registers: u32,
 }
 
-// The answer of `compile`.
-#[derive(Clone, Copy)]
-pub enum Compilation {
-    Accepted(Compiled),
-    Refused(Refusal),
-}
-
 // A table shorter than so many nodes and memories ask for, by the lengths of the four.
+#[tactic(auto, unfolding(crate::specs::Call::shorter))]
 fn shorter(
     nodes: usize,
     memories: usize,
@@ -44,166 +37,101 @@ fn shorter(
     ensures { result ≡ shorter nodes memories expansion steps instructions work }
 {
     let most = 7 * nodes + 5 * (memories + 1);
-    if expansion < 3 * nodes {
-        return true;
-    }
-    if steps < 2 * most {
-        return true;
-    }
-    if instructions < 2 * most {
-        return true;
-    }
-    work < 32 * nodes + 16 * memories + 320
+    expansion < 3 * nodes
+        || steps < 2 * most
+        || instructions < 2 * most
+        || work < 32 * nodes + 16 * memories + 320
 }
 
-// The refusals 1 to 13 of a call, from the lengths and words of its tables.
+// The refusals 1 to 13 of a call, from the lengths and words of its tables. The four lent tables stay four parameters: `tables` joins them in the clauses, and a struct of
+// four `&mut` would add a literal to each caller and a clause to each function.
 fn judge(
-    header: Header,
-    parameters: &[u32],
-    states: &[u32],
-    delays: &[u32],
-    nodes: &[u32],
+    block: &Block<'_>,
     expansion: &[u32],
     steps: &[u32],
     instructions: &[u32],
     work: &[u32],
-) -> Verdict
-    ensures { Verdicts.answer_of result ≡ compile_judged (block header parameters.now states.now delays.now nodes.now) (tables expansion.now steps.now instructions.now work.now) }
+) -> Result<(), Refusal>
+    ensures { answer_of result ≡ compile_judged (the_block block.now) (tables expansion.now steps.now instructions.now work.now) }
 {
-    let verdict = block::validate(header, parameters, states, delays, nodes);
-    let Verdict::Valid = verdict else {
-        return verdict;
-    };
-    let count = kinds::expanded_length(nodes);
-    let memories = states.len() / 2 + delays.len() / 2;
+    block.validate()?;
+    let counts = block.counts();
     if shorter(
-        count,
-        memories,
+        kinds::expanded_length(block.nodes),
+        counts.states + counts.delays,
         expansion.len(),
         steps.len(),
         instructions.len(),
         work.len(),
     ) {
-        return Verdict::Refused(Refusal::TableTooShort);
+        return Err(Refusal::TableTooShort);
     }
-    Verdict::Valid
+    Ok(())
 }
 
 // Both phases of a block that is expanded. The work table begins with the map of nodes.
 fn compile_expanded(
+    block: &Block<'_>,
     count: usize,
-    last: u32,
-    states: &[u32],
-    delays: &[u32],
     mask: u32,
     expansion: &[u32],
     steps: &mut [u32],
     instructions: &mut [u32],
     work: &mut [u32],
-) -> Compilation
-    requires { Mapped count last states.now delays.now expansion.now steps.old instructions.old work.old }
-    ensures { PhasesLeave (flow_compiled (mapped_flow count last states.now delays.now expansion.now work.old) mask) steps.old instructions.old result steps.new instructions.new }
+) -> Result<Compiled, Refusal>
+    requires { Mapped count block.now.header.output block.now.states.now block.now.delays.now expansion.now steps.old instructions.old work.old }
+    ensures { PhasesLeave (flow_compiled (mapped_flow count block.now.header.output block.now.states.now block.now.delays.now expansion.now work.old) mask) steps.old instructions.old result steps.new instructions.new }
 {
-    let updates = updates::mapped_updates(states, work);
-    let stores = updates::mapped_updates(delays, work);
-    let at = last as usize;
-    let output = work[at] as usize;
-    let held = states.len() / 2;
-    let lines = delays.len() / 2;
-    let end = 3 * count;
+    let updates = map::mapped_updates(block.states, work);
+    let stores = map::mapped_updates(block.delays, work);
+    let counts = block.counts();
     let sizes = Sizes {
         nodes: count,
-        states: held,
-        delays: lines,
+        states: counts.states,
+        delays: counts.delays,
+    };
+    let flow = Flow {
+        nodes: &expansion[..3 * count],
+        updates: &updates[..sizes.states],
+        stores: &stores[..sizes.delays],
+        output: work[block.header.output as usize] as usize,
+        sizes,
     };
     tables::zero(work);
-    phases::phases(
-        &expansion[..end],
-        &updates[..held],
-        &stores[..lines],
-        output,
-        work,
-        steps,
-        instructions,
-        sizes,
-        mask,
-    )
+    phases::phases(&flow, work, steps, instructions, mask)
 }
 
 // A call that 1 to 13 do not refuse: the expansion, the kernel, and zeros in the work table and behind the last step and instruction; 14 leaves no step.
 fn build(
-    header: Header,
-    parameters: &[u32],
-    states: &[u32],
-    delays: &[u32],
-    nodes: &[u32],
+    block: &Block<'_>,
     mask: u32,
     expansion: &mut [u32],
     steps: &mut [u32],
     instructions: &mut [u32],
     work: &mut [u32],
-) -> Compilation
-    requires { compile_judged (block header parameters.now states.now delays.now nodes.now) (tables expansion.old steps.old instructions.old work.old) ≡ accepted tt }
-    ensures { outcome (answer_of result) (tables expansion.new steps.new instructions.new work.new) ≡ compile_call (block header parameters.now states.now delays.now nodes.now) mask (tables expansion.old steps.old instructions.old work.old) }
+) -> Result<Compiled, Refusal>
+    requires { compile_judged (the_block block.now) (tables expansion.old steps.old instructions.old work.old) ≡ accepted tt }
+    ensures { outcome (answer_of result) (tables expansion.new steps.new instructions.new work.new) ≡ compile_call (the_block block.now) mask (tables expansion.old steps.old instructions.old work.old) }
 {
-    let count = kinds::expanded_length(nodes);
-    let last = header.output;
-    expand::expand(header, parameters, states, delays, nodes, expansion);
-    expand::map_nodes(nodes, work);
-    let compilation = compile_expanded(
-        count,
-        last,
-        states,
-        delays,
-        mask,
-        expansion,
-        steps,
-        instructions,
-        work,
-    );
+    let count = kinds::expanded_length(block.nodes);
+    valid::expand(block, expansion)?;
+    expand::map_nodes(block.nodes, work);
+    let compilation = compile_expanded(block, count, mask, expansion, steps, instructions, work);
     phases::clear(compilation, steps, instructions, work);
     compilation
 }
 
 // The kernel of a block for the registers of a mask: an answer, the expanded nodes, the words of its steps and instructions, and zeros in the work table.
 pub fn compile(
-    header: Header,
-    parameters: &[u32],
-    states: &[u32],
-    delays: &[u32],
-    nodes: &[u32],
+    block: &Block<'_>,
     mask: u32,
     expansion: &mut [u32],
     steps: &mut [u32],
     instructions: &mut [u32],
     work: &mut [u32],
-) -> Compilation
-    ensures { outcome (answer_of result) (tables expansion.new steps.new instructions.new work.new) ≡ compile_call (block header parameters.now states.now delays.now nodes.now) mask (tables expansion.old steps.old instructions.old work.old) }
+) -> Result<Compiled, Refusal>
+    ensures { outcome (answer_of result) (tables expansion.new steps.new instructions.new work.new) ≡ compile_call (the_block block.now) mask (tables expansion.old steps.old instructions.old work.old) }
 {
-    let verdict = judge(
-        header,
-        parameters,
-        states,
-        delays,
-        nodes,
-        expansion,
-        steps,
-        instructions,
-        work,
-    );
-    if let Verdict::Refused(refusal) = verdict {
-        return Compilation::Refused(refusal);
-    }
-    build(
-        header,
-        parameters,
-        states,
-        delays,
-        nodes,
-        mask,
-        expansion,
-        steps,
-        instructions,
-        work,
-    )
+    judge(block, expansion, steps, instructions, work)?;
+    build(block, mask, expansion, steps, instructions, work)
 }

@@ -15,7 +15,8 @@ use Rattle.compile.specs.Draft.{usable}
 use Rattle.compile.specs.Words.{Compiled}
 use Rattle.compile.specs.Compile.{compile}
 use Rattle.compile.specs.Gives.{compile_gives}
-use Rattle.compile.specs.Call.{Tables, Done, compile_judged, compiled_answer, compile_answer, compile_call}
+use Rattle.compile.specs.Call.{Tables, compile_judged, compiled_answer, compile_answer, compile_call}
+use Rattle.compile.specs.declared.Compiled.{Compiled as Done}
 use Rattle.compiled.specs.LockedRun.{FlowLocked}
 use Rattle.compiled.proofs.LockedRun.{locked_exactly}
 

@@ -12,7 +12,8 @@ use Rattle.answers.specs.Numbers.{Answer, accepted}
 use Rattle.answers.specs.Order.{in_order}
 use Rattle.answers.specs.OrderLaws.{then_pass, refuse_at_off}
 use Rattle.block.specs.Block.{Block, state_count, delay_count}
-use Rattle.block.specs.Validation.{Counts, counts_of}
+use Rattle.block.specs.declared.Counts.{Counts}
+use Rattle.block.specs.Validation.{counts_of}
 use Rattle.block.specs.Valid.{Valid}
 use Rattle.expand.specs.Graph.{Graph, mapped_update, graph_of}
 use Rattle.expand.specs.GraphLaws.{good_graph}

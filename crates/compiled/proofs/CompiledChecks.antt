@@ -6,7 +6,8 @@ use Rattle.block.specs.Block.{Block}
 use Rattle.block.specs.Validation.{validation}
 use Rattle.block.specs.Valid.{Valid, valid}
 use Rattle.compile.specs.Words.{Compiled}
-use Rattle.compile.specs.Call.{Tables, Done, too_short, zero_past, compile_call}
+use Rattle.compile.specs.Call.{Tables, too_short, zero_past, compile_call}
+use Rattle.compile.specs.declared.Compiled.{Compiled as Done}
 use Rattle.compile.specs.Draft.{usable}
 use Rattle.compile.specs.Gives.{call_accepts}
 use Rattle.compile.specs.Bounds.{Fits, compile_bounds, room, SameLengths, call_lengths}

@@ -19,7 +19,8 @@ use Rattle.agree.specs.Calls.{agree_call}
 use Rattle.allocate.specs.State.{allocated}
 use Rattle.compile.specs.Words.{Compiled}
 use Rattle.compile.specs.Compile.{compile}
-use Rattle.compile.specs.Call.{Done, Tables, compile_call}
+use Rattle.compile.specs.Call.{Tables, compile_call}
+use Rattle.compile.specs.declared.Compiled.{Compiled as Done}
 use Rattle.compiled.proofs.CompilePasses.{compile_passes}
 use Rattle.compiled.specs.CompiledChecks.{CheckRoom}
 use Rattle.compiled.proofs.CompiledChecks.{compiled_checks}

@@ -6,7 +6,7 @@ use Rattle.std.proofs.Math.Bool.{false}
 use mathlib.Core.List.{List, [], ◌∷◌, ◌++◌, append_assoc}
 use Rattle.std.proofs.lemmas.List.{length-replicate}
 use Rattle.std.proofs.Math.Seq.{get_or-append_seam, append_snoc}
-use Rattle.block.specs.Validation.{Counts}
+use Rattle.block.specs.declared.Counts.{Counts}
 use Rattle.expand.specs.Graph.{Graph}
 use Rattle.expand.specs.GraphLaws.{GoodGraph}
 use Rattle.plan.specs.Lists.{count, filter, any_of}

@@ -1,5 +1,5 @@
 -- What goes through the walk and stands in the tables the checker passes: both phases. Of a good graph. Assumes nothing.
-use Rattle.std.specs.Prelude.{◌≡◌, refl, ◌⊎◌, Bool}
+use Rattle.std.specs.Prelude.{◌≡◌, refl, ◌⊎◌, Bool, Some}
 use Rattle.std.proofs.Math.Path.{subst}
 use Rattle.std.proofs.Common.{inl, inr, eq-or-lt_of_le}
 use Rattle.std.proofs.Math.Bool.{true, false}
@@ -9,9 +9,8 @@ use native.Mathlib.Omega.{arith}
 use Rattle.std.proofs.Math.ListN.{length}
 use Rattle.std.proofs.Math.Dec.{eqb}
 use borrow.Author.Tests.{eq-eqb}
-use Rattle.block.specs.Validation.{Counts}
+use Rattle.block.specs.declared.Counts.{Counts}
 use Rattle.expand.specs.Graph.{Graph}
-use Rattle.kernel.specs.declared.StepWords.TheVariants as StepWords
 use Rattle.kernel.specs.declared.Phase.{Phase}
 use Rattle.kernel.specs.declared.Phase.TheVariants.{Control, Sample}
 use Rattle.kernel.specs.declared.Kernel.{Kernel}
@@ -42,12 +41,12 @@ module _ (counts : Counts) (g : Graph) (sound : Sound counts g) (mask : ℕ) (k 
   L = list counts g mask k steps instructions
 
   -- the words at a step's place, before which this is held, pass
-  passes_there : (phase : Phase) (last : Bool) (h h₀ : Held) (at : ℕ) (number : ℕ) (x : Action) → step_at steps at ≡ StepWords.Formed (step_of number x) → h ≡ h₀
-      → words_pass L phase last h₀ (StepWords.Formed (step_of number x)) ≡ true → words_pass L phase last h (step_at steps at) ≡ true
+  passes_there : (phase : Phase) (last : Bool) (h h₀ : Held) (at : ℕ) (number : ℕ) (x : Action) → step_at steps at ≡ Some (step_of number x) → h ≡ h₀
+      → words_pass L phase last h₀ (Some (step_of number x)) ≡ true → words_pass L phase last h (step_at steps at) ≡ true
   passes_there phase last h h₀ at number x e q p = rw (e, q) p
 
   -- what is held after one step more
-  one_more_lem : (h h₀ h₁ : Held) (from i number : ℕ) (x : Action) → step_at steps (from + i) ≡ StepWords.Formed (step_of number x) → walked L h from i ≡ h₀
+  one_more_lem : (h h₀ h₁ : Held) (from i number : ℕ) (x : Action) → step_at steps (from + i) ≡ Some (step_of number x) → walked L h from i ≡ h₀
       → after_step L h₀ (step_of number x) ≡ h₁ → walked L h from (suc i) ≡ h₁
   unfolding walked
   one_more_lem h h₀ h₁ from i number x e q p = rw (e, q) p
@@ -101,7 +100,7 @@ module _ (counts : Counts) (g : Graph) (sound : Sound counts g) (mask : ℕ) (k 
         let y : n ≡ suc i = omega arith in
         ((λ j a b. let t : i ≡ j = omega arith in subst PassesSample t here), rw y (end s.0 l))
       where
-        end : step_at steps (from + i) ≡ StepWords.Formed (step_of number (store_output r)) → Left g m [] → nothing_missing L (walked L h from (suc i)) ≡ true
+        end : step_at steps (from + i) ≡ Some (step_of number (store_output r)) → Left g m [] → nothing_missing L (walked L h from (suc i)) ≡ true
         end t l =
             rw (one_more_lem h (held_sample control_slots m) _ from i number (store_output r) t w refl)
             (nothing_missing_lem L _ (λ i. omega (arith, l.states i)) (λ i. omega (arith, l.delays i)) refl)

@@ -22,7 +22,8 @@ use Rattle.checker.specs.Check.{listing_of, work_needed, check_judged, check_cal
 use Rattle.allocate.specs.State.{Allocated, allocated, all_locked}
 use Rattle.compile.specs.Words.{Compiled}
 use Rattle.compile.specs.Compile.{compile}
-use Rattle.compile.specs.Call.{Tables, Done, too_short, zero_past, compile_judged, compiled_answer, compile_answer, tables_after, compile_call}
+use Rattle.compile.specs.Call.{Tables, too_short, zero_past, compile_judged, compiled_answer, compile_answer, tables_after, compile_call}
+use Rattle.compile.specs.declared.Compiled.{Compiled as Done}
 use Rattle.compile.specs.Bounds.{Room, room}
 
 -- ---- words in front of zeros are read as they are

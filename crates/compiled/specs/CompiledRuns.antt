@@ -3,7 +3,8 @@ use Rattle.std.specs.Prelude.{ℕ}
 use Rattle.block.specs.Block.{Block}
 use Rattle.step_run.specs.Run as Step
 use Rattle.compile.specs.Words.{Compiled}
-use Rattle.compile.specs.Call.{Done, Tables, compile_call}
+use Rattle.compile.specs.Call.{Tables, compile_call}
+use Rattle.compile.specs.declared.Compiled.{Compiled as Done}
 
 -- a compiled kernel with its tables
 abbrev pub code_of : Compiled → Step.Code

@@ -6,7 +6,7 @@ use Rattle.std.proofs.Math.Path.{ap}
 use Rattle.std.proofs.Math.Bool.{true}
 use Rattle.block.specs.Block.{code, first, second}
 use Rattle.block.specs.Kinds.{kind_of, operands_of}
-use Rattle.block.specs.Validation.{Counts}
+use Rattle.block.specs.declared.Counts.{Counts}
 use Rattle.expand.specs.Graph.{Graph}
 use Rattle.expand.specs.Good.{good_operands}
 use Rattle.expand.specs.GraphLaws.{GoodGraph}

@@ -12,7 +12,7 @@ use Rattle.std.proofs.Math.Dec.{eqb, eqb_refl}
 use borrow.Author.Tests.{ne_eqb}
 use Rattle.block.specs.Block.{code, first, second}
 use Rattle.block.specs.Kinds.{kind_of}
-use Rattle.block.specs.Validation.{Counts}
+use Rattle.block.specs.declared.Counts.{Counts}
 use Rattle.expand.specs.Graph.{Graph}
 use Rattle.expand.specs.GraphLaws.{GoodGraph}
 use Rattle.kernel.specs.Steps.{source_code, source_index}

@@ -8,7 +8,7 @@ use borrow.Author.Tests.{eq-eqb, ne_eqb, lt-ltb}
 use Rattle.tables.specs.Tests.{&_true, differs}
 use Rattle.block.specs.Block.{first, second}
 use Rattle.block.specs.Kinds.{kind_of}
-use Rattle.block.specs.Validation.{Counts}
+use Rattle.block.specs.declared.Counts.{Counts}
 use Rattle.expand.specs.Graph.{Graph}
 use Rattle.expand.specs.Good.{GoodNode}
 use Rattle.expand.specs.GraphLaws.{GoodGraph}

@@ -9,7 +9,8 @@ use Rattle.step_run.specs.declared.Done as Run
 use Rattle.step_run.specs.Run as Step
 use Rattle.checker.specs.Check as Check
 use Rattle.compile.specs.Draft.{usable}
-use Rattle.compile.specs.Call.{Done, Outcome}
+use Rattle.compile.specs.Call.{Outcome}
+use Rattle.compile.specs.declared.Compiled.{Compiled as Done}
 use Rattle.compiled.specs.CompiledChecks.{CheckRoom}
 
 -- what a call for this block and mask answers and leaves

@@ -5,7 +5,7 @@ use Rattle.std.proofs.Common.{◌∙◌, arith, lt-ltb}
 use Rattle.std.proofs.Math.Bool.{true, false, cond}
 use Prim.Native.Nat.{ℕ, zero, suc, ◌<◌}
 use Rattle.std.proofs.Math.ListN.{get_or}
-use Rattle.block.specs.Validation.{Counts}
+use Rattle.block.specs.declared.Counts.{Counts}
 use Rattle.expand.specs.Graph.{Graph}
 use Rattle.kernel.specs.declared.Source.{Source}
 use Rattle.kernel.specs.declared.Step.TheVariants.{Load, Spill, Reload, StoreState, StoreDelay, StoreOutput}

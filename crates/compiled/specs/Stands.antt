@@ -1,9 +1,7 @@
 -- Actions stand in two tables: their words, read back, are the steps and instructions that they were. `words_stand` says so of the tables that compile writes,
 -- and of any that agree with them below the counts. Assumes nothing.
-use Rattle.std.specs.Prelude.{◌≡◌, List, [], ◌∷◌, ◌++◌, ℕ, suc, ◌+◌, ◌*◌, ◌≤◌, ◌<◌, length, get_or}
+use Rattle.std.specs.Prelude.{◌≡◌, List, [], ◌∷◌, ◌++◌, ℕ, suc, ◌+◌, ◌*◌, ◌≤◌, ◌<◌, length, get_or, Some}
 use Rattle.std.proofs.Common.{ap, ◌∙◌, subst, arith, length-append}
-use Rattle.kernel.specs.declared.StepWords.TheVariants as StepWords
-use Rattle.kernel.specs.declared.InstructionWords.TheVariants as InstructionWords
 use Rattle.kernel.specs.Steps as Steps
 use Rattle.kernel.specs.Instructions as Instructions
 use Rattle.kernel.specs.Steps.{step_word, step_index, step_register, step_at}
@@ -25,7 +23,7 @@ module _ (steps instructions : List ℕ) (count : ℕ) where
   -- an action's operation, if it has one, is instruction `number` of `count`
   abbrev pub Computed : ℕ → Action → Type 0
   Computed number (load source r) = Unit {0}
-  Computed number (compute operation) = (number < count) × (instruction_at instructions number ≡ InstructionWords.Formed (instruction_of operation))
+  Computed number (compute operation) = (number < count) × (instruction_at instructions number ≡ Some (instruction_of operation))
   Computed number (spill k r) = Unit {0}
   Computed number (reload k r) = Unit {0}
   Computed number (store_state i r) = Unit {0}
@@ -37,7 +35,7 @@ module _ (steps instructions : List ℕ) (count : ℕ) where
   abbrev pub Stands : ℕ → ℕ → List Action → Type 0
   Stands at number [] = Unit {0}
   Stands at number (x ∷ xs) =
-      (step_at steps at ≡ StepWords.Formed (step_of number x)) × Computed number x × Stands (suc at) (number + length (operation_in x)) xs
+      (step_at steps at ≡ Some (step_of number x)) × Computed number x × Stands (suc at) (number + length (operation_in x)) xs
 
   -- the first of two parts, and the second
   pub stands_first : (xs ys : List Action) (at number : ℕ) → Stands at number (xs ++ ys) → Stands at number xs
@@ -95,7 +93,7 @@ module _ (steps instructions : List ℕ) (count : ℕ) where
       let z : number + 0 ≡ number = omega arith in (
         (
           omega arith,
-          subst (λ (j : ℕ). instruction_at instructions j ≡ InstructionWords.Formed (instruction_of operation)) z
+          subst (λ (j : ℕ). instruction_at instructions j ≡ Some (instruction_of operation)) z
               (h 0 (omega arith) ∙ instruction_read_back (instruction_of operation) (operation_registers operation s)),
         ),
         instructions_behind number (instruction_word (instruction_of operation)) (instruction_immediate (instruction_of operation)) (instruction_words rest)
@@ -115,8 +113,8 @@ module _ (steps instructions : List ℕ) (count : ℕ) where
   words_stand [] at number s l h k = tt
   words_stand (x ∷ xs) at number s l h k =
       let z : at + 0 ≡ at = omega arith in
-      let step : step_at steps at ≡ StepWords.Formed (step_of number x) =
-      subst (λ (j : ℕ). step_at steps j ≡ StepWords.Formed (step_of number x)) z
+      let step : step_at steps at ≡ Some (step_of number x) =
+      subst (λ (j : ℕ). step_at steps j ≡ Some (step_of number x)) z
       (h 0 (omega arith) ∙ step_read_back (step_of number x) (small_register number x s.0)) in
       let c = computed number x (operations_in xs) s.0 l k in
       let m : number + length (operation_in x) + length (operations_in xs) ≤ count = omega (arith, l, length-append (operation_in x) (operations_in xs)) in (

@@ -3,39 +3,26 @@
 #![tactic(auto)]
 
 ghost use Rattle.std.specs.Prelude.{◌≡◌};
-ghost use Rattle.block.specs.Block.{block};
-ghost use Rattle.compile.specs.Call.{tables, outcome, answer_of, compile_call};
+ghost use Rattle.answers.specs.Numbers.{answer_of};
+ghost use Rattle.block.specs.Block.{the_block};
+ghost use Rattle.compile.specs.Call.{tables, outcome, compile_call};
 ghost use Rattle.compiled.specs.Promised.{Promised};
 
-use block::Header;
-use compile::Compilation;
+use answers::Refusal;
+use block::Block;
+use compile::Compiled;
 
 // Compile, with the promise of the whole: no check is run, since none can fail.
 pub fn compile_checked(
-    header: Header,
-    parameters: &[u32],
-    states: &[u32],
-    delays: &[u32],
-    nodes: &[u32],
+    block: &Block<'_>,
     mask: u32,
     expansion: &mut [u32],
     steps: &mut [u32],
     instructions: &mut [u32],
     work: &mut [u32],
-) -> Compilation
-    ensures { (outcome (answer_of result) (tables expansion.new steps.new instructions.new work.new) ≡ compile_call (block header parameters.now states.now delays.now nodes.now) mask (tables expansion.old steps.old instructions.old work.old))
-        × Promised (block header parameters.now states.now delays.now nodes.now) mask (outcome (answer_of result) (tables expansion.new steps.new instructions.new work.new)) }
+) -> Result<Compiled, Refusal>
+    ensures compiled { outcome (answer_of result) (tables expansion.new steps.new instructions.new work.new) ≡ compile_call (the_block block.now) mask (tables expansion.old steps.old instructions.old work.old) }
+    ensures promised { Promised (the_block block.now) mask (outcome (answer_of result) (tables expansion.new steps.new instructions.new work.new)) }
 {
-    compile::compile(
-        header,
-        parameters,
-        states,
-        delays,
-        nodes,
-        mask,
-        expansion,
-        steps,
-        instructions,
-        work,
-    )
+    compile::compile(block, mask, expansion, steps, instructions, work)
 }

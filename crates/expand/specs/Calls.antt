@@ -1,16 +1,15 @@
 -- The ways out of `expand`, over plain values: `r` is the saturated expanded length that the code counts.
-use Rattle.std.specs.Prelude.{◌≡◌, ℕ, ◌+◌, ◌-◌, ◌*◌, ◌≤◌, ◌<◌, min}
+use Rattle.std.specs.Prelude.{Result, Ok, Err, IsErrAnd, ◌≡◌, ℕ, ◌+◌, ◌-◌, ◌*◌, ◌≤◌, ◌<◌, min}
 use Rattle.std.proofs.Common.{sym, ◌∙◌, arith, lt-ltb, le-ltb}
 use Rattle.std.proofs.Math.Path.{ap}
 use mathlib.Core.List.{List, [], ◌++◌}
 use Rattle.std.proofs.Math.ListN.{length, get_or, drop}
 use Rattle.std.proofs.Math.Seq.{drop-drop}
+use Rattle.std.proofs.lemmas.Result.{err_from_is_err_and}
 use Rattle.answers.specs.declared.Refusal.{Refusal}
-use Rattle.answers.specs.declared.Verdict.{Verdict}
-use Rattle.answers.specs.declared.Verdict.TheVariants as Verdicts
 use Rattle.answers.specs.Numbers as N
 use Rattle.answers.specs.Numbers.{Answer, accepted, refused}
-use Rattle.answers.specs.OrderLaws.{then_stop, then_pass, refuse_stop, refuse_pass}
+use Rattle.answers.specs.OrderLaws.{hand_on, then_pass, refuse_stop, refuse_pass}
 use Rattle.block.specs.Block.{Block, node_count}
 use Rattle.block.specs.Kinds.{tanh_steps}
 use Rattle.block.specs.Validation.{expanded_length, validation}
@@ -27,13 +26,16 @@ unfolding expand_call
 expand_is b l a e = rw e
 
 -- a refusal of validation is handed on
-pub expand_refused : (b : Block) (l : List ℕ) (v : Verdict) (r : Refusal) → N.answer_of v ≡ validation b → v ≡ Verdicts.Refused r → outcome (N.refusal r) l ≡ expand_call b l
+pub expand_refused : (b : Block) (l : List ℕ) {v : Result Unit Refusal} (r : Result Expanded Refusal) {e : Refusal} → N.answer_of v ≡ validation b → v ≡ Err e → IsErrAnd r (λ y. y ≡ e)
+    → outcome (N.answer_of r) l ≡ expand_call b l
 unfolding expand_answer table_after
-expand_refused b l v r e h = expand_is b l (N.refusal r) (then_stop _ (sym e ∙ ap N.answer_of h))
+expand_refused b l r f h p =
+    let q = err_from_is_err_and r p in
+    rw q.1 (expand_is b l (N.refusal q.0) (sym (hand_on r _ f h p) ∙ ap N.answer_of q.1))
 
 -- a block that validation accepts
-pub expand_accepted : (b : Block) (v : Verdict) → N.answer_of v ≡ validation b → v ≡ Verdicts.Valid → validation b ≡ accepted tt
-expand_accepted b v e h = sym e ∙ ap N.answer_of h
+pub expand_accepted : (b : Block) {v : Result Unit Refusal} {u : Unit} → N.answer_of v ≡ validation b → v ≡ Ok u → validation b ≡ accepted tt
+expand_accepted b e h = sym e ∙ ap N.answer_of h
 
 module _ (b : Block) (l : List ℕ) (r : ℕ) (judged : validation b ≡ accepted tt) (s : r ≡ min (expanded_length b) 65537) where
   is_valid : Valid b

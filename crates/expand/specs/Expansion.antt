@@ -10,8 +10,6 @@ use Rattle.block.specs.Block.{Block, node_count, code, first, second}
 use Rattle.block.specs.Kinds.{kind_of, recip_steps, tanh_steps, offset}
 use Rattle.block.specs.Validation.{expanded_length, validation}
 use Rattle.expand.specs.declared.Expanded.{Expanded}
-use Rattle.expand.specs.declared.Expansion.{Expansion}
-use Rattle.expand.specs.declared.Expansion.TheVariants.{Accepted, Refused}
 use Rattle.expand.specs.Nodes.{Node, node, words_of}
 use Rattle.expand.specs.Macros.{recip, tanh, sigmoid, divide}
 
@@ -57,10 +55,6 @@ map_update steps nodes zero = 0
 map_update steps nodes (suc i) = suc (map_node steps nodes i)
 
 -- ---- the call
-abbrev pub answer_of : Expansion → Answer Expanded
-answer_of (Accepted e) = N.accepted e
-answer_of (Refused r) = N.refusal r
-
 -- "Compile, check and both runs validate the block and expand it into a lent table of 3N words"; 13 where the table is shorter
 unfoldable pub expand_answer : Block → ℕ → Answer Expanded
 expand_answer b room =

@@ -10,7 +10,8 @@ use Rattle.block.specs.declared.Kind.TheVariants.{Source, Constant, Parameter, S
 use Rattle.block.specs.Block.{Block, state_count, delay_count, node_count, code, first, second}
 use Rattle.block.specs.Kinds.{kind_of, operands_of, recip_length, offset}
 use Rattle.block.specs.KindLaws.{kind_unknown}
-use Rattle.block.specs.Validation.{Counts, counts_of, expanded_length}
+use Rattle.block.specs.declared.Counts.{Counts}
+use Rattle.block.specs.Validation.{counts_of, expanded_length}
 use Rattle.block.specs.Valid.{SoundWords, Sound, Valid}
 use Rattle.expand.specs.Nodes.{Node, mul, words_of}
 use Rattle.expand.specs.Words.{no_node, words_at}

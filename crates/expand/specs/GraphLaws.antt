@@ -5,7 +5,8 @@ use Rattle.std.proofs.Math.Decide.{dec_lt}
 use Rattle.std.proofs.Math.ListN.{get_or-eq_default}
 use Rattle.block.specs.Block.{Block, state_count, delay_count, code, first, second}
 use Rattle.block.specs.Limits.{most_nodes}
-use Rattle.block.specs.Validation.{Counts, counts_of, expanded_length}
+use Rattle.block.specs.declared.Counts.{Counts}
+use Rattle.block.specs.Validation.{counts_of, expanded_length}
 use Rattle.block.specs.Valid.{Valid}
 use Rattle.tables.specs.Lists.{list_of, list_length, list_at}
 use Rattle.expand.specs.Graph.{Graph, mapped_update, graph_of}

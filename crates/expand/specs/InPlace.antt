@@ -11,7 +11,7 @@ use Rattle.block.specs.declared.Kind.{Kind}
 use Rattle.block.specs.declared.Kind.TheVariants.{Source, Constant, Parameter, State, Delay, Binary, Divide, Unary, Recip, Tanh, Sigmoid, Unknown}
 use Rattle.block.specs.Block.{code, first, second}
 use Rattle.block.specs.Kinds.{kind_of, operands_of, node_length, offset}
-use Rattle.block.specs.Validation.{Counts}
+use Rattle.block.specs.declared.Counts.{Counts}
 use Rattle.block.specs.Valid.{SoundWords, Sound}
 use Rattle.expand.specs.Nodes.{Node, words_of}
 use Rattle.expand.specs.Words.{words_append}

@@ -12,6 +12,7 @@ pub mod Writes
 pub mod GraphLaws
 pub mod Map
 pub mod MapLaws
+pub mod Updates
 pub mod InPlace
 pub mod Calls
 pub mod Examples

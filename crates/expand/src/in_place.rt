@@ -15,18 +15,18 @@ fn write_node(table: &mut [u32], k: u32, kind: Kind, code: u32, first: u32, seco
     ensures { table.new ≡ write table.old k (E.expand_as steps kind same k code first second) }
 {
     match kind {
-        Kind::Source => macros::put(table, k, code, first, second),
-        Kind::Constant => macros::put(table, k, code, first, second),
-        Kind::Parameter => macros::put(table, k, code, first, second),
-        Kind::State => macros::put(table, k, code, first, second),
-        Kind::Delay => macros::put(table, k, code, first, second),
-        Kind::Binary => macros::put(table, k, code, first, second),
         Kind::Divide => macros::divide(table, k, first, second, kinds::RECIP_STEPS),
-        Kind::Unary => macros::put(table, k, code, first, second),
         Kind::Recip => macros::recip(table, k, first, kinds::RECIP_STEPS),
         Kind::Tanh => macros::tanh(table, k, first, steps),
         Kind::Sigmoid => macros::sigmoid(table, k, first, steps),
-        Kind::Unknown => macros::put(table, k, code, first, second),
+        Kind::Source
+        | Kind::Constant
+        | Kind::Parameter
+        | Kind::State
+        | Kind::Delay
+        | Kind::Binary
+        | Kind::Unary
+        | Kind::Unknown => macros::put(table, k, code, first, second),
     }
 }
 
@@ -37,11 +37,7 @@ fn mapped_operand(table: &[u32], operand: bool, word: u32) -> u32
     if !operand {
         return word;
     }
-    let index = word as usize;
-    if index < table.len() {
-        return table[index];
-    }
-    0
+    table.get(word as usize).copied().unwrap_or(0)
 }
 
 // Node i at position k.
@@ -51,8 +47,8 @@ fn expand_node(nodes: &[u32], table: &mut [u32], i: usize, k: u32, steps: u32)
 {
     let at = 3 * i;
     let code = nodes[at];
-    let kind = kinds::kind(code);
-    let operands = kinds::operands_of(kind);
+    let kind = Kind::from(code);
+    let operands = kind.operands();
     let first = mapped_operand(table, 1 <= operands, nodes[at + 1]);
     let second = mapped_operand(table, 2 <= operands, nodes[at + 2]);
     write_node(table, k, kind, code, first, second, steps);
@@ -63,13 +59,9 @@ pub fn expand_nodes(nodes: &[u32], table: &mut [u32], total: usize, steps: u32)
     requires { AllReady steps nodes.now table.old total }
     ensures { table.new ≡ words_of (E.expand_to steps nodes.now (length nodes.now / 3)) ++ drop (3 * total) table.old }
 {
-    let count = nodes.len() / 3;
-    let mut i = count;
     let mut end = total;
-    while 0 < i {
-        i -= 1;
-        let at = 3 * i;
-        end -= kinds::length_of(kinds::kind(nodes[at]), steps);
+    for i in (0..nodes.len() / 3).rev() {
+        end -= Kind::from(nodes[3 * i]).length(steps);
         expand_node(nodes, table, i, end as u32, steps);
     }
 }

@@ -3,16 +3,17 @@
 
 mod in_place;
 mod macros;
-mod map;
+pub mod map;
 pub mod valid;
 
 ghost use Rattle.std.specs.Prelude.{◌≡◌};
-ghost use Rattle.block.specs.Block.{block};
-ghost use Rattle.expand.specs.Expansion.{answer_of, outcome, expand_call};
+ghost use Rattle.answers.specs.Numbers.{answer_of};
+ghost use Rattle.block.specs.Block.{the_block};
+ghost use Rattle.expand.specs.Expansion.{outcome, expand_call};
 ghost use Rattle.expand.specs.Map.{map_within, map_update_within, mapping, map_call};
 
-use answers::{Refusal, Verdict};
-use block::{Header, kinds, limits};
+use answers::Refusal;
+use block::{Block, kinds, limits};
 
 // What an accepted expansion tells besides the table: how many nodes it has and which of them is the output.
 #[derive(Clone, Copy)]
@@ -21,34 +22,17 @@ pub struct Expanded {
     pub output: u32,
 }
 
-// The answer of `expand`.
-#[derive(Clone, Copy)]
-pub enum Expansion {
-    Accepted(Expanded),
-    Refused(Refusal),
-}
-
 // Validates a block and writes its expansion, three words a node, into a lent table: 13 where the table is too short. A refusal leaves the table.
-pub fn expand(
-    header: Header,
-    parameters: &[u32],
-    states: &[u32],
-    delays: &[u32],
-    nodes: &[u32],
-    table: &mut [u32],
-) -> Expansion
-    ensures { outcome (answer_of result) table.new
-        ≡ expand_call (block header parameters.now states.now delays.now nodes.now) table.old }
+pub fn expand(block: &Block<'_>, table: &mut [u32]) -> Result<Expanded, Refusal>
+    ensures { outcome (answer_of result) table.new ≡ expand_call (the_block block.now) table.old }
 {
-    let verdict = block::validate(header, parameters, states, delays, nodes);
-    if let Verdict::Refused(refusal) = verdict {
-        return Expansion::Refused(refusal);
-    }
-    valid::expand(header, parameters, states, delays, nodes, table)
+    block.validate()?;
+    valid::expand(block, table)
 }
 
 // The last expanded node of each node over the table's first words, and true. Where the table has fewer words than there are nodes, or the expansion
-// is over the limit, nothing is written and the answer is false.
+// is over the limit, nothing is written and the answer is false. A flag and no Result: `map_call` (docs/PROMISES.md) says true or false and the table, and no refusal has a number
+// for it.
 pub fn map_nodes(nodes: &[u32], table: &mut [u32]) -> bool
     ensures { mapping result table.new ≡ map_call nodes.now table.old }
 {
@@ -62,7 +46,8 @@ pub fn map_nodes(nodes: &[u32], table: &mut [u32]) -> bool
     true
 }
 
-// The last expanded node of one node. 65,536 stands for a node past the table, and for a last node that is not below it.
+// The last expanded node of one node. 65,536 stands for a node past the table, and for a last node that is not below it: no Option, since this promises
+// `map_within` (docs/PROMISES.md) and cannot fail.
 pub fn mapped_node(nodes: &[u32], node: u32) -> u32
     ensures { result ≡ map_within nodes.now node }
 {

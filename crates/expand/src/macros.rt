@@ -5,7 +5,7 @@ ghost use Rattle.expand.specs.Nodes as N;
 ghost use Rattle.expand.specs.Macros as M;
 ghost use Rattle.expand.specs.Writes.{write};
 
-// The codes of the nodes that macros are made of.
+// The codes of the nodes that macros are made of. Numbers, and no enum: they are words of the lent table ("All values are 32-bit words").
 const CONSTANT: u32 = 1;
 
 const ADD: u32 = 5;
@@ -72,12 +72,10 @@ fn newton(table: &mut [u32], k: u32, x: u32, estimate: u32, two: u32, steps: u32
 {
     let mut at = k;
     let mut last = estimate;
-    let mut left = steps;
-    while 0 < left {
+    for left in (0..steps).rev() {
         newton_step(table, at, x, last, two);
         last = at + 2;
         at += 3;
-        left -= 1;
     }
 }
 

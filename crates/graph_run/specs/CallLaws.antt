@@ -1,14 +1,13 @@
 -- The call: what an accepted answer says, each way out of the tests, and what rendering leaves. Assumes nothing.
-use Rattle.std.specs.Prelude.{◌≡◌, Bool, true, false, not, List, [], ◌++◌, ℕ, ◌*◌, ◌≤◌, ◌<◌, min, take, drop, ltb}
+use Rattle.std.specs.Prelude.{Result, Ok, Err, IsErrAnd, ◌≡◌, Bool, true, false, not, List, [], ◌++◌, ℕ, ◌*◌, ◌≤◌, ◌<◌, min, take, drop, ltb}
 use Rattle.std.proofs.Math.Path.{sym, ap}
 use Rattle.std.proofs.Common.{◌∙◌, length-append, length-drop, take_at, lt-ltb, le-ltb, ltb-false}
 use native.Mathlib.Omega.{arith}
 use Rattle.std.proofs.Math.ListN.{length, get_or-append}
 use Rattle.std.proofs.lemmas.Bool.{not-false}
+use Rattle.std.proofs.lemmas.Result.{err_from_is_err_and}
 use Rattle.tables.specs.Tests.{neither, or_left, or_right, or_none}
 use Rattle.tables.specs.Zeros.{zeros}
-use Rattle.answers.specs.declared.Verdict.{Verdict}
-use Rattle.answers.specs.declared.Verdict.TheVariants.{Valid, Refused}
 use Rattle.answers.specs.declared.Refusal.{Refusal}
 use Rattle.answers.specs.Numbers.{Answer, accepted, refused, refusal, answer_of}
 use Rattle.answers.specs.Order.{refuse}
@@ -31,7 +30,8 @@ use Rattle.memory.specs.Sizes.{run_fits}
 use Rattle.memory.specs.SizeLaws.{Fitting, fitting}
 use Rattle.graph_run.specs.Ready.{Lent}
 use Rattle.graph_run.specs.Plan.{mapped_graph, Planned}
-use Rattle.graph_run.specs.PlanLaws.{samples_of, IsMap, graph_is, planned}
+use Rattle.expand.specs.Updates.{IsMap}
+use Rattle.graph_run.specs.PlanLaws.{samples_of, graph_is, planned}
 use Rattle.memory.specs.Signals.{Signals, Rendered}
 use Rattle.graph_run.specs.Run.{samples_to, Tables, tables, outcome, run_answer, run_after, run_call}
 
@@ -58,29 +58,29 @@ accepted_run b s t e =
     }
 
 -- ---- the ways out of the tests. v is validation's verdict, n the expanded length as the code counts it
-module _ (b : Block) (s : Signals) (t : Tables) (v : Verdict) (e : answer_of v ≡ validation b) where
-  pub refused_block : {r : Refusal} → v ≡ Refused r → answer_of v ≡ run_answer b s t
+module _ (b : Block) (s : Signals) (t : Tables) (v : Result Unit Refusal) (e : answer_of v ≡ validation b) where
+  pub refused_block : (r : Result Unit Refusal) {y : Refusal} → v ≡ Err y → IsErrAnd r (λ z. z ≡ y) → answer_of r ≡ run_answer b s t
   unfolding run_answer
-  refused_block f = hand_on v _ e f
+  refused_block r f h = hand_on r _ e f h
 
   -- what it counts is the expanded length
-  pub counted : (n : ℕ) → v ≡ Valid → n ≡ min (expanded_length b) 65537 → n ≡ expanded_length b
+  pub counted : (n : ℕ) → v ≡ Ok tt → n ≡ min (expanded_length b) 65537 → n ≡ expanded_length b
   counted n f c = let w = (valid b (sym e ∙ ap answer_of f)).fits in omega arith
 
-  module _ (f : v ≡ Valid) (n : ℕ) (c : n ≡ min (expanded_length b) 65537) where
+  module _ (f : v ≡ Ok tt) (n : ℕ) (c : n ≡ min (expanded_length b) 65537) where
     pub short_expansion : length t.expansion < 3 * n → refused 13 [] ≡ run_answer b s t
     unfolding run_answer
     short_expansion h =
         let k = counted n f c in
         let q : length t.expansion < 3 * expanded_length b = omega arith in
-        go_on v _ e f (sym (refuse_stop 13 _ (or_left (ltb (length t.expansion) (3 * expanded_length b)) _ (lt-ltb _ _ q))))
+        go_on _ e f (sym (refuse_stop 13 _ (or_left (ltb (length t.expansion) (3 * expanded_length b)) _ (lt-ltb _ _ q))))
 
     pub short_values : length t.values < n → refused 13 [] ≡ run_answer b s t
     unfolding run_answer
     short_values h =
         let k = counted n f c in
         let q : length t.values < expanded_length b = omega arith in
-        go_on v _ e f (sym (refuse_stop 13 _ (or_right (ltb (length t.expansion) (3 * expanded_length b)) _ (lt-ltb _ _ q))))
+        go_on _ e f (sym (refuse_stop 13 _ (or_right (ltb (length t.expansion) (3 * expanded_length b)) _ (lt-ltb _ _ q))))
 
     module _ (h : 3 * n ≤ length t.expansion) (l : n ≤ length t.values) (d : Bool)
         (g : d ≡ run_fits b s.parameters t.rendered.memories s.input t.rendered.output s.network) where
@@ -90,7 +90,7 @@ module _ (b : Block) (s : Signals) (t : Tables) (v : Verdict) (e : answer_of v �
           let k = counted n f c in
           let x : 3 * expanded_length b ≤ length t.expansion = omega arith in
           let y : expanded_length b ≤ length t.values = omega arith in
-          go_on v _ e f (p ∙ ap (λ (z : Bool). refuse 16 (not z)) g ∙ sym (refuse_pass 13 _ (or_none _ _ (le-ltb _ _ x) (le-ltb _ _ y))))
+          go_on _ e f (p ∙ ap (λ (z : Bool). refuse 16 (not z)) g ∙ sym (refuse_pass 13 _ (or_none _ _ (le-ltb _ _ x) (le-ltb _ _ y))))
 
       pub sizes_differ : d ≡ false → refused 16 [] ≡ run_answer b s t
       sizes_differ q = sizes_answer _ (sym (refuse_on 16 (ap not q)))
@@ -99,14 +99,15 @@ module _ (b : Block) (s : Signals) (t : Tables) (v : Verdict) (e : answer_of v �
       all_fits q = sizes_answer _ (sym (refuse_off 16 (ap not q)))
 
 -- ---- the call
-pub refused_call : (b : Block) (s : Signals) (t : Tables) (v : Verdict) {r : Refusal} → answer_of v ≡ run_answer b s t → v ≡ Refused r
-    → outcome (answer_of v) t ≡ run_call b s t
+pub refused_call : (b : Block) (s : Signals) (t : Tables) (v r : Result Unit Refusal) {y : Refusal} → answer_of v ≡ run_answer b s t → v ≡ Err y → IsErrAnd r (λ z. z ≡ y)
+    → outcome (answer_of r) t ≡ run_call b s t
 unfolding run_call run_after
-refused_call b s t v {r} e f =
-    let a : run_answer b s t ≡ refusal r = sym e ∙ ap answer_of f in
-    rw (e, a)
+refused_call b s t v r {y} e f h =
+    let q = err_from_is_err_and r h in
+    let a : run_answer b s t ≡ refusal y = sym e ∙ ap answer_of f in
+    rw (q.1, q.2, a)
 
-pub accepted_call : (b : Block) (s : Signals) (t o : Tables) (v : Verdict) → answer_of v ≡ run_answer b s t → v ≡ Valid
+pub accepted_call : (b : Block) (s : Signals) (t o : Tables) (v : Result Unit Refusal) → answer_of v ≡ run_answer b s t → v ≡ Ok tt
     → o ≡ run_after (accepted tt) b s t → outcome (accepted tt) o ≡ run_call b s t
 unfolding run_call
 accepted_call b s t o v e f p =

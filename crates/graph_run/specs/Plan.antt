@@ -1,25 +1,10 @@
 -- The graph as the code has it: the updates through a table that maps each node to its last expanded node. Definitions alone.
-use Rattle.std.specs.Prelude.{cond, List, ℕ, ◌+◌, ◌-◌, ◌*◌, ◌/◌, ◌≤◌, ◌<◌, length, get_or, take, eqb}
-use Rattle.block.specs.Block.{update}
-use Rattle.block.specs.Limits.{most_nodes, most_states}
-use Rattle.tables.specs.Lists.{list_of}
+use Rattle.std.specs.Prelude.{List, ℕ, ◌*◌, ◌≤◌, ◌<◌, length, get_or, take}
 use Rattle.expand.specs.Graph.{Graph}
+use Rattle.expand.specs.Updates.{mapped_updates, Mappable}
 use Rattle.memory.specs.Lines.{Memories}
 use Rattle.memory.specs.Fit.{Small}
 use Rattle.graph_run.specs.Ready.{graph, Ready}
-
--- an update through the map: 0 stays none
-unfoldable pub mapped_word : List ℕ → List ℕ → ℕ → ℕ
-mapped_word map memories i = let u = update memories i in cond (eqb u 0) 0 (get_or map (u - 1) 0 + 1)
-
-unfoldable pub mapped_updates : List ℕ → List ℕ → List ℕ
-mapped_updates map memories = list_of (mapped_word map memories) (length memories / 2)
-
--- a table of states or delays whose updates the map has
-pub record Mappable (map memories : List ℕ) : Type 0 where
-  pub few : length memories / 2 ≤ most_states
-  pub inside : (i : ℕ) → i < length memories / 2 → update memories i ≤ length map
-  pub small : (i : ℕ) → i < length memories / 2 → mapped_word map memories i ≤ most_nodes
 
 -- the expanded block by its node table, the map, and the block's output, states and delays
 abbrev pub mapped_graph : ℕ → List ℕ → List ℕ → ℕ → List ℕ → List ℕ → Graph

@@ -2,19 +2,21 @@
 use Rattle.std.specs.Prelude.{◌≡◌, List, ℕ, ◌*◌, ◌≤◌, ◌<◌, length, get_or}
 use Rattle.block.specs.Block.{code, first, second}
 use Rattle.block.specs.Limits.{most_nodes}
-use Rattle.block.specs.Validation.{Counts}
+use Rattle.block.specs.declared.Counts.{Counts}
 use Rattle.expand.specs.Good.{GoodNode}
 use Rattle.expand.specs.Graph.{Graph}
 use Rattle.memory.specs.Lines.{Memories}
-use Rattle.memory.specs.Fit.{Fit, line_lengths, line_bases}
+use Rattle.memory.specs.declared.lines.Memories as LentMemories
+use Rattle.memory.specs.declared.signals.Given as LentGiven
+use Rattle.memory.specs.Fit.{Fit, line_lengths}
+use Rattle.graph_run.specs.declared.sample.Graph as LentGraph
 
 abbrev pub counts : ℕ → ℕ → ℕ → Counts
 counts parameters states delays = record { parameters = parameters; states = states; delays = delays }
 
--- every delay line can be read and stored to at its cursor
-pub record Lines (delays bases area cursors : List ℕ) : Type 0 where
-  pub fit : Fit (line_lengths delays) area cursors
-  pub based : bases ≡ line_bases delays
+-- what the nodes of a sample index, in the tables that are lent
+abbrev pub the_counts : LentGiven.Given → LentMemories.Memories → Counts
+the_counts x m = counts (length x.settings.now) (length m.held.now) (length m.cursors.now)
 
 -- node k of a table of expanded nodes
 abbrev pub NodeFits : Counts → List ℕ → ℕ → Type 0
@@ -41,6 +43,10 @@ graph count nodes output updates stores delays =
       delay_updates = stores;
       delay_lengths = line_lengths delays;
     }
+
+-- the graph that is lent, with so many nodes
+abbrev pub the_graph : ℕ → LentGraph.Graph → Graph
+the_graph count g = graph count g.nodes.now g.output g.updates.now g.stores.now g.lines.delays.now
 
 -- what a sample needs of a graph, the number of parameter values and the memories
 pub record Ready (g : Graph) (parameters : ℕ) (m : Memories) : Type 0 where

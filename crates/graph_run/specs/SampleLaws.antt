@@ -2,7 +2,7 @@
 use Rattle.std.specs.Prelude.{◌≡◌, Bool, true, false, cond, set, take, eqb, ltb}
 use Rattle.std.proofs.Math.Path.{refl, ap}
 use Rattle.std.proofs.Common.{sym, ◌∙◌, subst, add-one, arith, length-set, take_all, ne_eqb}
-use mathlib.Core.List.{List, []}
+use mathlib.Core.List.{List}
 use Prim.Native.Nat.{ℕ, zero, suc, ◌+◌, ◌-◌, ◌≤◌, ◌<◌}
 use Rattle.std.proofs.Math.ListN.{length, get_or, length-append}
 use Rattle.std.proofs.Math.Seq.{take-suc-set}
@@ -10,7 +10,7 @@ use Rattle.tables.specs.Tests.{cond_pred}
 use Rattle.block.specs.declared.Kind.TheVariants.{Binary, Divide, Unary, Recip, Tanh, Sigmoid, Unknown}
 use Rattle.block.specs.Block.{code, first, second}
 use Rattle.block.specs.Kinds.{kind_of}
-use Rattle.block.specs.Validation.{Counts}
+use Rattle.block.specs.declared.Counts.{Counts}
 use Rattle.expand.specs.Good.{GoodAs, GoodNode}
 use Rattle.expand.specs.Graph.{Graph}
 use Rattle.memory.specs.Lines.{Memories, memories}
@@ -120,27 +120,21 @@ module _ (updates lengths values : List ℕ) where
       }
 
 -- what the loop over the delays keeps
-pub record Storing (updates lengths values area₀ cursors₀ area cursors : List ℕ) (i : ℕ) : Type 0 where
-  pub so_far : (states : List ℕ) → memories states area cursors ≡ update_delays updates lengths values (memories states area₀ cursors₀) i
-  pub area_length : length area ≡ length area₀
-  pub cursors_length : length cursors ≡ length cursors₀
-  pub fit : Fit lengths area cursors
+pub record Storing (updates lengths values : List ℕ) (m₀ m : Memories) (i : ℕ) : Type 0 where
+  pub so_far : m ≡ update_delays updates lengths values m₀ i
+  pub kept : Kept lengths m m₀
 
-module _ (updates lengths values area₀ cursors₀ : List ℕ) where
-  pub storing_start : Fit lengths area₀ cursors₀ → Storing updates lengths values area₀ cursors₀ area₀ cursors₀ 0
-  storing_start f = record { so_far = λ states. delays_start updates lengths values (memories states area₀ cursors₀); area_length = refl; cursors_length = refl; fit = f }
+module _ (updates lengths values : List ℕ) (m₀ : Memories) where
+  pub storing_start : Fit lengths m₀.area m₀.cursors → Storing updates lengths values m₀ m₀ 0
+  storing_start f = record { so_far = delays_start updates lengths values m₀; kept = record { states = refl; area = refl; cursors = refl; fit = f } }
 
-  pub storing_next : (area cursors a c : List ℕ) (i : ℕ) → Storing updates lengths values area₀ cursors₀ area cursors i → i < length cursors
-      → ((states : List ℕ) → memories states a c ≡ update_delay updates lengths values (memories states area cursors) i)
-      → Storing updates lengths values area₀ cursors₀ a c (i + 1)
-  storing_next area cursors a c i s h e =
-      let kept : Kept lengths (memories [] a c) (memories [] area cursors) =
-      subst (λ (m : Memories). Kept lengths m (memories [] area cursors)) (sym (e [])) (delay_kept updates lengths values (memories [] area cursors) i s.fit h) in
+  pub storing_next : (m n : Memories) (i : ℕ) → Storing updates lengths values m₀ m i → i < length m.cursors → n ≡ update_delay updates lengths values m i
+      → Storing updates lengths values m₀ n (i + 1)
+  storing_next m n i s h e =
+      let k : Kept lengths n m = subst (λ (x : Memories). Kept lengths x m) (sym e) (delay_kept updates lengths values m i s.kept.fit h) in
       record {
-        so_far = λ states. e states ∙ delays_next updates lengths values (memories states area₀ cursors₀) (memories states area cursors) i (s.so_far states);
-        area_length = kept.area ∙ s.area_length;
-        cursors_length = kept.cursors ∙ s.cursors_length;
-        fit = kept.fit;
+        so_far = e ∙ delays_next updates lengths values m₀ m i s.so_far;
+        kept = record { states = k.states ∙ s.kept.states; area = k.area ∙ s.kept.area; cursors = k.cursors ∙ s.kept.cursors; fit = k.fit };
       }
 
 -- updates know the number of memories alone
@@ -152,12 +146,12 @@ pub updates_in : {updates : List ℕ} {nodes n : ℕ} (l : ℕ) → l ≡ nodes 
 updates_in {updates} {n = n} l e u = subst (λ (x : ℕ). Updates updates x n) (sym e) u
 
 -- ---- a sample: the values, the states, the delays
-pub sample_is : (g : Graph) (x : Given) (m : Memories) (v s a c : List ℕ) → v ≡ values g x m
+pub sample_is : (g : Graph) (x : Given) (m o : Memories) (v s : List ℕ) → v ≡ values g x m
     → s ≡ update_states g.state_updates v m.states (length g.state_updates)
-    → memories s a c ≡ update_delays g.delay_updates g.delay_lengths v (memories s m.area m.cursors) (length g.delay_updates)
-    → sampled (get_or v g.output 0) (memories s a c) ≡ sample g x m
+    → o ≡ update_delays g.delay_updates g.delay_lengths v (memories s m.area m.cursors) (length g.delay_updates)
+    → sampled (get_or v g.output 0) o ≡ sample g x m
 unfolding sample updated
-sample_is g x m v s a c ev es el = ap (λ (n : Memories). sampled (get_or v g.output 0) n) el ∙ rw (es, ev)
+sample_is g x m o v s ev es el = ap (λ (n : Memories). sampled (get_or v g.output 0) n) el ∙ rw (es, ev)
 
 -- the memories' tables keep their lengths
 pub record Same (m m₀ : Memories) : Type 0 where

@@ -2,12 +2,12 @@
 #![tactic(auto)]
 
 ghost use Rattle.std.specs.Prelude.{◌≡◌, set};
-ghost use Rattle.kernel.specs.Instructions.{destination};
-ghost use Rattle.machine.specs.Machine.{register, result_of, execute};
+ghost use Rattle.machine.specs.Machine.{execute};
 ghost use Rattle.host.specs.Outcome.{outcome, outcome_of};
 
-use answers::{Refusal, Verdict};
-use kernel::{Instruction, InstructionWords, instructions};
+use answers::Refusal;
+use kernel::Instruction;
+use machine::registers;
 
 // "A thin host entry takes them as a struct lent to it."
 #[derive(Clone, Copy)]
@@ -18,120 +18,50 @@ pub struct Registers {
 // What a call leaves: its answer and the sixteen words.
 #[derive(Clone, Copy)]
 pub struct Outcome {
-    pub answer: Verdict,
+    pub answer: Result<(), Refusal>,
     pub words: [u32; 16],
-}
-
-fn read(words: [u32; 16], at: u32) -> u32
-    ensures { result ≡ register words at }
-{
-    let place = at as usize;
-    if place < 16 {
-        return words[place];
-    }
-    0
 }
 
 fn put(words: [u32; 16], at: u32, value: u32) -> [u32; 16]
     ensures { result ≡ set words at value }
 {
     let place = at as usize;
+    let mut next = words;
     if place < 16 {
-        let mut next = words;
         next[place] = value;
-        return next;
     }
-    words
+    next
 }
 
-fn result(words: [u32; 16], instruction: Instruction) -> u32
-    ensures { result ≡ result_of words instruction }
-{
-    match instruction {
-        Instruction::Immediate { dst: _, value } => value,
-        Instruction::Add { dst: _, lhs, rhs } => words::add(read(words, lhs), read(words, rhs)),
-        Instruction::Sub { dst: _, lhs, rhs } => words::sub(read(words, lhs), read(words, rhs)),
-        Instruction::Mul { dst: _, lhs, rhs } => words::mul(read(words, lhs), read(words, rhs)),
-        Instruction::Min { dst: _, lhs, rhs } => words::min(read(words, lhs), read(words, rhs)),
-        Instruction::Max { dst: _, lhs, rhs } => words::max(read(words, lhs), read(words, rhs)),
-        Instruction::Neg { dst: _, src } => words::neg(read(words, src)),
-        Instruction::Abs { dst: _, src } => words::abs(read(words, src)),
-        Instruction::IntegerSub { dst: _, lhs, rhs } => {
-            words::integer_sub(read(words, lhs), read(words, rhs))
-        }
-    }
-}
-
-fn destination(instruction: Instruction) -> u32
-    ensures { result ≡ destination instruction }
-{
-    match instruction {
-        Instruction::Immediate { dst, value: _ } => dst,
-        Instruction::Add {
-            dst,
-            lhs: _,
-            rhs: _,
-        } => dst,
-        Instruction::Sub {
-            dst,
-            lhs: _,
-            rhs: _,
-        } => dst,
-        Instruction::Mul {
-            dst,
-            lhs: _,
-            rhs: _,
-        } => dst,
-        Instruction::Min {
-            dst,
-            lhs: _,
-            rhs: _,
-        } => dst,
-        Instruction::Max {
-            dst,
-            lhs: _,
-            rhs: _,
-        } => dst,
-        Instruction::Neg { dst, src: _ } => dst,
-        Instruction::Abs { dst, src: _ } => dst,
-        Instruction::IntegerSub {
-            dst,
-            lhs: _,
-            rhs: _,
-        } => dst,
-    }
-}
-
-// A twin of the step run's own, which is fast only while it has one caller.
+#[tactic(auto, unfolding(machine::specs::Machine::execute))]
 fn execute(words: [u32; 16], instruction: Instruction) -> [u32; 16]
     ensures { result ≡ execute words instruction }
 {
-    let value = result(words, instruction);
-    put(words, destination(instruction), value)
+    registers::execute_by(words, instruction, put)
 }
 
 // The instruction by value. Words that are no instruction are refused and change nothing.
+#[tactic(auto, unfolding(crate::specs::Outcome::outcome))]
 fn executed(words: [u32; 16], word: u32, immediate: u32) -> Outcome
     ensures { result ≡ outcome words word immediate }
 {
-    let InstructionWords::Formed(instruction) = instructions::instruction_from_words(
-        word, immediate,
-    ) else {
-        let answer = Verdict::Refused(Refusal::BadStepList);
-        return Outcome { answer, words };
-    };
-    let answer = Verdict::Valid;
-    let next = execute(words, instruction);
-    Outcome {
-        answer,
-        words: next,
+    match Instruction::from_words(word, immediate) {
+        Some(instruction) => Outcome {
+            answer: Ok(()),
+            words: execute(words, instruction),
+        },
+        None => Outcome {
+            answer: Err(Refusal::BadStepList),
+            words,
+        },
     }
 }
 
 // Takes the array out of the lent struct, runs the instruction on it by value, and stores it back.
-pub fn run_instruction(registers: &mut Registers, word: u32, immediate: u32) -> Verdict
+pub fn run_instruction(registers: &mut Registers, word: u32, immediate: u32) -> Result<(), Refusal>
     ensures { outcome_of result registers.new.words ≡ outcome registers.old.words word immediate }
 {
+    // an array goes in and out of a struct by a variable: the proof of a field that is stored straight is not generated
     let words = registers.words;
     let done = executed(words, word, immediate);
     let next = done.words;

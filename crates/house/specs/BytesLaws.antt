@@ -1,7 +1,8 @@
 -- Laws of bytes and words: what is appended, a loop that sums, a loop that stores words. Assumes nothing.
-use Rattle.std.specs.Prelude.{◌≡◌, ℕ, ◌+◌, ◌-◌, ◌*◌, ◌%◌, ◌<◌, ◌≤◌, List, [], ◌∷◌, ◌++◌, length, take, drop, slice_index, slice_range, refl}
-use Rattle.std.proofs.Common.{sym, ap, ◌∙◌, append_assoc, add-one, arith, length-drop, take-append-drop, length-take-le, take_all, take-suc}
-use Rattle.std.proofs.lemmas.List.Edits.{sets}
+use Rattle.std.specs.Prelude.{◌≡◌, ℕ, ◌+◌, ◌-◌, ◌*◌, ◌/◌, ◌%◌, ◌<◌, ◌≤◌, List, [], ◌∷◌, ◌++◌, length, take, drop, fold, slice_index, slice_range, refl}
+use Rattle.std.proofs.Common.{sym, ap, ◌∙◌, append_assoc, add-one, arith, length-drop, drop-drop, take-append-drop, length-take-le, take_all, take-suc}
+use Rattle.std.proofs.lemmas.List.Edits.{sets, sets-eq}
+use borrow.Rule.Slice.PartMut.{put_mid}
 use Rattle.tables.specs.Stores.{sets_append}
 use Rattle.tables.specs.Lists.{list_of}
 use Rattle.house.specs.Bytes.{word_from, four_bytes, bytes_of, total, wrapping_sum, all_ones}
@@ -33,6 +34,14 @@ wrapping_next f i s w r e g h =
     omega arith
 
 -- ---- bytes of words
+
+-- a slice of four bytes that is written as a whole
+pub put_four : (l m : List ℕ) (at w : ℕ) → w < 4294967296 → at + 3 < length l
+    → m ≡ w % 256 ∷ w / 256 % 256 ∷ w / 65536 % 256 ∷ w / 16777216 % 256 ∷ [] → put_mid at (at + 4 - at) l m ≡ sets l at (four_bytes w)
+put_four l m at w f h e =
+    let z : at + 4 - at ≡ 4 = omega arith in
+    let q : w / 16777216 % 256 ≡ w / 16777216 = omega arith in
+    rw (z, e, q) (sym (sets-eq (four_bytes w) l at (omega arith) ∙ (rw (← drop-drop 4 at l) (append_assoc (take at l) (four_bytes w) (drop 4 (drop at l))))))
 
 pub bytes_append : (l m : List ℕ) → bytes_of (l ++ m) ≡ bytes_of l ++ bytes_of m
 unfolding bytes_of
@@ -76,6 +85,18 @@ unfolding total
 sum_next p i s w r h e f g =
     let t : total (take (i + 1) p) ≡ total (take i p) + (slice_index p i + 0) = rw (add-one, take-suc p i 0 h) (total_append (take i p) (slice_index p i ∷ [])) in
     omega arith
+
+-- a fold that sums them
+pub wrapping_fold_on : (p : List ℕ) (s : ℕ) → fold (λ (t w : ℕ). (t + w) % 4294967296) (s % 4294967296) p ≡ (s + total p) % 4294967296
+unfolding total
+wrapping_fold_on [] s = let z : s + 0 ≡ s = omega arith in rw z
+wrapping_fold_on (w ∷ p) s =
+    let z : (s % 4294967296 + w) % 4294967296 ≡ (s + w) % 4294967296 = omega arith in
+    let a : s + w + total p ≡ s + (w + total p) = omega arith in
+    ap (λ (x : ℕ). fold (λ (t w : ℕ). (t + w) % 4294967296) x p) z ∙ (wrapping_fold_on p (s + w) ∙ ap (λ (x : ℕ). x % 4294967296) a)
+
+pub wrapping_fold : (p : List ℕ) → fold (λ (t w : ℕ). (t + w) % 4294967296) 0 p ≡ wrapping_sum p
+wrapping_fold p = let z : 0 + total p ≡ total p = omega arith in wrapping_fold_on p 0 ∙ ap (λ (x : ℕ). x % 4294967296) z
 
 -- ---- a whole block: its words k, n and u, its payload p of 124 words and its check, one behind the other
 wrap_left : (x y : ℕ) → (x % 4294967296 + y) % 4294967296 ≡ (x + y) % 4294967296

@@ -70,6 +70,14 @@ bad_frame low high bytes b = wrong_kind low high bytes b || not (number_in bytes
 unfoldable pub block_answer : ℕ → ℕ → List ℕ → ℕ → Answer Unit
 block_answer low high bytes b = refuse 20 (wrong_check bytes b) ⨾ refuse 21 (bad_frame low high bytes b)
 
+-- the same of a block that stands at the place b and should have the number `number`, in a file whose first block has the kind `first`
+unfoldable pub bad_block : ℕ → ℕ → ℕ → ℕ → List ℕ → ℕ → Bool
+bad_block low high first number bytes b =
+    other_kind low high (kind_in bytes b) || not (kind_in bytes b == first) || not (number_in bytes b == number) || wrong_used bytes b || rest_not_zero bytes b
+
+unfoldable pub judged_block : ℕ → ℕ → ℕ → ℕ → List ℕ → ℕ → Answer Unit
+judged_block low high first number bytes b = refuse 20 (wrong_check bytes b) ⨾ refuse 21 (bad_block low high first number bytes b)
+
 -- "A length of 0 or not a multiple of 512 is 21 before all"
 unfoldable pub wrong_length : List ℕ → Bool
 wrong_length bytes = length bytes == 0 || not (length bytes % 512 == 0)

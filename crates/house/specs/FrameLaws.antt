@@ -1,6 +1,6 @@
 -- The tests of a block and of a frame, each way out from the tests that lead to it; what an accepted frame says. Assumes nothing.
 use Rattle.std.specs.Prelude.{◌≡◌, ℕ, ◌+◌, ◌-◌, ◌*◌, ◌/◌, ◌%◌, ◌<◌, ◌≤◌, Bool, true, false, not, ◌||◌, List, [], length, ◌==◌, ◌≢◌, nat_lt}
-use Rattle.std.proofs.Math.Path.{sym}
+use Rattle.std.proofs.Math.Path.{refl, sym}
 use Rattle.std.proofs.Common.{ap, ◌∙◌}
 use native.Mathlib.Omega.{arith}
 use borrow.Author.Tests.{lt-ltb, le-ltb, eq-eqb, ne_eqb}
@@ -11,7 +11,7 @@ use Rattle.answers.specs.Order.{in_order}
 use Rattle.answers.specs.OrderLaws.{refuse_stop, refuse_pass, refuse_on, refuse_off}
 use Rattle.house.specs.Bytes.{word_from, wrapping_sum, all_ones}
 use Rattle.tables.specs.Lists.{list_of}
-use Rattle.house.specs.Frame.{block_word, kind_in, number_in, used_in, wrong_check, other_kind, wrong_kind, wrong_used, unused_word, rest_not_zero, bad_frame, block_answer, wrong_length, frame_answer, payload_length, payload_word}
+use Rattle.house.specs.Frame.{block_word, kind_in, number_in, used_in, wrong_check, other_kind, wrong_kind, wrong_used, unused_word, rest_not_zero, bad_frame, block_answer, bad_block, judged_block, wrong_length, frame_answer, payload_length, payload_word}
 
 -- a word of a block, by the place of its first byte
 pub block_word_at : (bytes : List ℕ) (b k r : ℕ) → r ≡ word_from bytes (512 * b + 4 * k) → r ≡ block_word bytes b k
@@ -96,8 +96,36 @@ module _ (low high : ℕ) (bytes : List ℕ) (b : ℕ) where
   unfolding block_answer wrong_check
   block_good s e h f = sym (refuse_pass 20 _ (rw (← e) (differs_not s all_ones h)) ∙ refuse_off 21 f)
 
+-- ---- a block at the place b, with the sum s of its words, that should have the number `number` where the first block's kind is `first`
+module _ (low high first number : ℕ) (bytes : List ℕ) (b s : ℕ) (e : s ≡ wrapping_sum (list_of (block_word bytes b) 128)) where
+  pub judged_check : (s ≢ all_ones) → refused 20 [] ≡ judged_block low high first number bytes b
+  unfolding judged_block wrong_check
+  judged_check h = sym (refuse_stop 20 _ (rw (← e) (differs s all_ones h)))
+
+  -- behind a right check
+  module _ (h : s ≡ all_ones) where
+    pub judged_bad : bad_block low high first number bytes b ≡ true → refused 21 [] ≡ judged_block low high first number bytes b
+    unfolding judged_block wrong_check
+    judged_bad f = sym (refuse_pass 20 _ (rw (← e) (differs_not s all_ones h)) ∙ refuse_on 21 f)
+
+    pub judged_good : bad_block low high first number bytes b ≡ false → accepted tt ≡ judged_block low high first number bytes b
+    unfolding judged_block wrong_check
+    judged_good f = sym (refuse_pass 20 _ (rw (← e) (differs_not s all_ones h)) ∙ refuse_off 21 f)
+
+-- a block that stands at its own number, in its own file
+pub judged_own : (low high : ℕ) (bytes : List ℕ) (b : ℕ) → judged_block low high (kind_in bytes 0) b bytes b ≡ block_answer low high bytes b
+unfolding judged_block bad_block block_answer bad_frame wrong_kind
+judged_own low high bytes b = refl
+
+pub judged_here : (low high : ℕ) (bytes : List ℕ) (b k : ℕ) {a : Answer Unit} → k ≡ kind_in bytes 0 → a ≡ judged_block low high k b bytes b → a ≡ block_answer low high bytes b
+judged_here low high bytes b k e f = f ∙ (ap (λ (x : ℕ). judged_block low high x b bytes b) e ∙ judged_own low high bytes b)
+
 -- ---- the frame of a file
 module _ (low high : ℕ) (bytes : List ℕ) where
+  pub frame_wrong : wrong_length bytes ≡ true → refused 21 [] ≡ frame_answer low high bytes
+  unfolding frame_answer
+  frame_wrong h = sym (refuse_stop 21 _ h)
+
   pub frame_empty : length bytes ≡ 0 → refused 21 [] ≡ frame_answer low high bytes
   unfolding frame_answer wrong_length
   frame_empty h = sym (refuse_stop 21 _ (or_left (length bytes == 0) _ (eq-eqb _ _ h)))

@@ -1,6 +1,6 @@
 -- What one block has of a payload, word by word with zeros past its end, is its share with zeros behind it. Assumes nothing.
-use Rattle.std.specs.Prelude.{◌≡◌, ℕ, zero, suc, ◌+◌, ◌-◌, ◌*◌, ◌<◌, ◌≤◌, min, List, ◌++◌, length, drop, ◌≢◌, slice_index, slice_index_or, refl}
-use Rattle.std.proofs.Common.{sym, ◌∙◌, arith, length-append, length-take, length-drop, ext_get_or, get_or-take, get_or-drop}
+use Rattle.std.specs.Prelude.{◌≡◌, ℕ, zero, suc, ◌+◌, ◌-◌, ◌*◌, ◌<◌, ◌≤◌, min, List, ◌++◌, length, take, drop, ◌≢◌, slice_range, slice_index, slice_index_or, refl}
+use Rattle.std.proofs.Common.{sym, ◌∙◌, arith, length-append, length-take, length-take-le, length-drop, ext_get_or, get_or-take, get_or-drop}
 use Rattle.std.proofs.Math.Decide.{dec_lt}
 use Rattle.std.proofs.Math.ListN.{get_or-eq_default}
 use Rattle.tables.specs.Parts.{part}
@@ -49,6 +49,17 @@ pub inner_share : (samples : List ℕ) (from at : ℕ) → at ≡ suc from → l
 inner_share samples from at e =
     list_same (share_word samples from) (share_word (rendering_payload samples) at) 124
     (λ i h. let z : at + i ≡ suc (from + i) = omega arith in rw z)
+
+-- as a slice
+pub samples_share : (samples : List ℕ) (from : ℕ) → from + 124 ≤ length samples → slice_range samples from (from + 124) ≡ list_of (share_word samples from) 124
+samples_share samples from h =
+    let z : from + 124 - from ≡ 124 = omega arith in
+    let n = list_length (share_word samples from) 124 in
+    let d = length-drop from samples in
+    let l = length-take-le 124 (drop from samples) (omega arith) in
+    rw z
+    (ext_get_or 0 (take 124 (drop from samples)) (list_of (share_word samples from) 124) (omega arith)
+    (λ i g. (get_or-take 124 (drop from samples) i 0 (omega arith) ∙ get_or-drop from samples i 0) ∙ sym (list_at (share_word samples from) 124 i (omega arith))))
 
 -- ---- a word of a rendering's payload
 pub payload_count : (samples : List ℕ) (c i : ℕ) → c ≡ length samples → i ≡ 0 → c ≡ slice_index (rendering_payload samples) i

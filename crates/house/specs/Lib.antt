@@ -10,6 +10,8 @@ pub mod Payload
 -- the four calls
 pub mod Read
 pub mod Write
+-- the tables that a block is read into
+pub mod Lent
 -- theorems: reading back gives the same, no other bytes do, kinds are never mixed
 pub mod RenderingFiles
 pub mod BlockFiles

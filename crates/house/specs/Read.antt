@@ -2,14 +2,10 @@
 -- Definitions alone.
 use Rattle.std.specs.Prelude.{ℕ, ◌+◌, ◌*◌, Bool, not, ◌||◌, List, length, ◌==◌, nat_lt}
 use Rattle.tables.specs.Zeros.{copied}
-use Rattle.answers.specs.Numbers.{Answer, accepted, refused, refusal}
+use Rattle.answers.specs.Numbers.{Answer, accepted, refused}
 use Rattle.answers.specs.Order.{◌⨾◌, refuse}
 use Rattle.house.specs.declared.Contents.{Contents}
-use Rattle.house.specs.declared.BlockRead.{BlockRead}
-use Rattle.house.specs.declared.BlockRead.TheVariants as B
 use Rattle.house.specs.declared.Rendering.{Rendering}
-use Rattle.house.specs.declared.RenderingRead.{RenderingRead}
-use Rattle.house.specs.declared.RenderingRead.TheVariants as R
 use Rattle.house.specs.Frame.{effect_kind, graph_kind, step_kind, frame_answer, payload_length, section}
 use Rattle.house.specs.Payload.{contents_in, parameters_at, states_at, delays_at, nodes_at, contents_end, rendering_in, samples_at}
 
@@ -22,11 +18,6 @@ pub record Tables : Type 0 where
 
 abbrev pub tables : List ℕ → List ℕ → List ℕ → List ℕ → Tables
 tables parameters states delays nodes = record { parameters = parameters; states = states; delays = delays; nodes = nodes }
-
--- what the code's answer says in the document's numbers
-abbrev pub block_answer_of : BlockRead → Answer Contents
-block_answer_of (B.Read contents) = accepted contents
-block_answer_of (B.Refused r) = refusal r
 
 -- 13: a lent table is shorter than the file needs
 unfoldable pub tables_short : Contents → Tables → Bool
@@ -67,10 +58,6 @@ read_block_call bytes t =
     block_outcome answer (read_tables answer bytes t)
 
 -- ---- a rendering of either engine, into one lent table
-abbrev pub rendering_answer_of : RenderingRead → Answer Rendering
-rendering_answer_of (R.Read rendering) = accepted rendering
-rendering_answer_of (R.Refused r) = refusal r
-
 unfoldable pub read_rendering_answer : List ℕ → List ℕ → Answer Rendering
 read_rendering_answer bytes samples =
     frame_answer graph_kind step_kind bytes

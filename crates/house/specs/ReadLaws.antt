@@ -1,12 +1,11 @@
 -- The ways out of the two readers, each from the tests that lead to it. Assumes nothing.
-use Rattle.std.specs.Prelude.{◌≡◌, ℕ, ◌+◌, ◌*◌, ◌<◌, ◌≤◌, true, false, not, List, [], length, ◌==◌, ◌≢◌, nat_lt}
+use Rattle.std.specs.Prelude.{◌≡◌, ℕ, ◌+◌, ◌*◌, ◌<◌, ◌≤◌, true, false, not, List, [], length, ◌==◌, ◌≢◌, nat_lt, Result, Ok, Err, IsErrAnd}
 use Rattle.std.proofs.Common.{sym, ◌∙◌, arith, lt-ltb, le-ltb, ltb-false}
 use Rattle.std.proofs.Math.Path.{ap}
+use Rattle.std.proofs.lemmas.Result.{err_from_is_err_and}
 use Rattle.tables.specs.Tests.{differs, differs_not, neither}
 use Rattle.tables.specs.Zeros.{copied}
 use Rattle.answers.specs.declared.Refusal.{Refusal}
-use Rattle.answers.specs.declared.Verdict.{Verdict}
-use Rattle.answers.specs.declared.Verdict.TheVariants.{Valid, Refused}
 use Rattle.answers.specs.Numbers.{accepted, refused, refusal, answer_of}
 use Rattle.answers.specs.OrderLaws.{then_stop, then_pass, refuse_stop, refuse_pass}
 use Rattle.house.specs.declared.Contents.{Contents}
@@ -16,8 +15,12 @@ use Rattle.house.specs.Framed.{framed, payload_room}
 use Rattle.house.specs.Payload.{contents_in, parameters_at, states_at, delays_at, nodes_at, contents_end, engine_of, rendering_in, samples_at}
 use Rattle.house.specs.Read.{Tables, tables, tables_short, read_block_answer, read_tables, block_outcome, read_block_call, read_rendering_answer, read_samples, rendering_outcome, read_rendering_call}
 
+-- what `?` returns for a refusal is that refusal
+pub err_is : {A : Type 0} (r : Result A Refusal) (e : Refusal) → IsErrAnd r (λ y. y ≡ e) → answer_of r ≡ refusal e
+err_is r e h = let p = err_from_is_err_and r h in rw (p.1, p.2)
+
 -- a verdict that gives the frame's answer and is valid
-pub frame_valid : (low high : ℕ) (bytes : List ℕ) {v : Verdict} → answer_of v ≡ frame_answer low high bytes → v ≡ Valid → frame_answer low high bytes ≡ accepted tt
+pub frame_valid : (low high : ℕ) (bytes : List ℕ) {v : Result Unit Refusal} → answer_of v ≡ frame_answer low high bytes → v ≡ Ok tt → frame_answer low high bytes ≡ accepted tt
 frame_valid low high bytes e k = sym e ∙ ap answer_of k
 
 -- a valid frame has a first block
@@ -30,7 +33,7 @@ module _ (bytes samples : List ℕ) where
   unfolding read_rendering_call read_samples
   rendering_refused e = rw e
 
-  pub rendering_frame : {v : Verdict} {r : Refusal} → answer_of v ≡ frame_answer graph_kind step_kind bytes → v ≡ Refused r
+  pub rendering_frame : {v : Result Unit Refusal} {r : Refusal} → answer_of v ≡ frame_answer graph_kind step_kind bytes → v ≡ Err r
       → rendering_outcome (refusal r) samples ≡ read_rendering_call bytes samples
   unfolding read_rendering_answer
   rendering_frame e k = rendering_refused (then_stop _ (sym e ∙ ap answer_of k))
@@ -67,7 +70,7 @@ module _ (bytes : List ℕ) (t : Tables) where
   unfolding read_block_call read_tables
   block_refused e = rw e
 
-  pub block_frame : {v : Verdict} {r : Refusal} → answer_of v ≡ frame_answer effect_kind effect_kind bytes → v ≡ Refused r
+  pub block_frame : {v : Result Unit Refusal} {r : Refusal} → answer_of v ≡ frame_answer effect_kind effect_kind bytes → v ≡ Err r
       → block_outcome (refusal r) t ≡ read_block_call bytes t
   unfolding read_block_answer
   block_frame e k = block_refused (then_stop _ (sym e ∙ ap answer_of k))

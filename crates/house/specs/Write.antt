@@ -1,21 +1,15 @@
 -- Document 01, "House file": writing an effect block and a rendering. "Writing validates"; "over 2^32-1 samples is 13". Definitions alone.
 use Rattle.std.specs.Prelude.{ℕ, ◌||◌, List, length, nat_lt}
 use Rattle.tables.specs.Zeros.{copied}
-use Rattle.answers.specs.Numbers.{Answer, accepted, refused, refusal}
+use Rattle.answers.specs.Numbers.{Answer, accepted, refused}
 use Rattle.answers.specs.Order.{◌⨾◌, refuse}
 use Rattle.block.specs.Block.{Block}
 use Rattle.block.specs.Validation.{validation}
 use Rattle.house.specs.declared.Engine.{Engine}
-use Rattle.house.specs.declared.Written.{Written}
-use Rattle.house.specs.declared.Written.TheVariants as W
 use Rattle.house.specs.File.{file_length}
 use Rattle.house.specs.Payload.{block_payload, block_file, rendering_payload, rendering_file}
 
--- what the code's answer says in the document's numbers: how many bytes the file has
-abbrev pub written_of : Written → Answer ℕ
-written_of (W.Bytes count) = accepted count
-written_of (W.Refused r) = refusal r
-
+-- an accepted call answers how many bytes the file has
 -- the file over the first bytes that were lent; those past it stay
 unfoldable pub written_bytes : Answer ℕ → List ℕ → List ℕ → List ℕ
 written_bytes (accepted count) file bytes = copied file bytes

@@ -1,12 +1,10 @@
 -- The ways out of the two writers, each from the tests that lead to it. Assumes nothing.
-use Rattle.std.specs.Prelude.{◌≡◌, ℕ, ◌+◌, ◌*◌, ◌<◌, ◌≤◌, List, [], length, nat_lt}
+use Rattle.std.specs.Prelude.{◌≡◌, ℕ, ◌+◌, ◌*◌, ◌<◌, ◌≤◌, List, [], length, nat_lt, Result, Ok, Err}
 use Rattle.std.proofs.Common.{sym, ◌∙◌, arith, length-append, lt-ltb, le-ltb}
 use Rattle.std.proofs.Math.Path.{ap}
 use Rattle.tables.specs.Tests.{or_left, or_right, or_none}
 use Rattle.tables.specs.Zeros.{copied}
 use Rattle.answers.specs.declared.Refusal.{Refusal}
-use Rattle.answers.specs.declared.Verdict.{Verdict}
-use Rattle.answers.specs.declared.Verdict.TheVariants.{Valid, Refused}
 use Rattle.answers.specs.Numbers.{accepted, refused, refusal, answer_of}
 use Rattle.answers.specs.OrderLaws.{then_stop, then_pass, refuse_stop, refuse_pass}
 use Rattle.block.specs.Block.{Block}
@@ -68,7 +66,7 @@ module _ (b : Block) (bytes : List ℕ) where
   unfolding write_block_call written_bytes
   refused_block e = rw e
 
-  pub block_invalid : {v : Verdict} {r : Refusal} → answer_of v ≡ validation b → v ≡ Refused r → outcome (refusal r) bytes ≡ write_block_call b bytes
+  pub block_invalid : {v : Result Unit Refusal} {r : Refusal} → answer_of v ≡ validation b → v ≡ Err r → outcome (refusal r) bytes ≡ write_block_call b bytes
   unfolding write_block_answer
   block_invalid e k = refused_block (then_stop _ (sym e ∙ ap answer_of k))
 
@@ -87,7 +85,7 @@ module _ (b : Block) (bytes : List ℕ) where
         rw (a, i, k)
 
 -- a verdict that gives validation's answer and is valid
-pub block_valid : (b : Block) {v : Verdict} → answer_of v ≡ validation b → v ≡ Valid → validation b ≡ accepted tt
+pub block_valid : (b : Block) {v : Result Unit Refusal} → answer_of v ≡ validation b → v ≡ Ok tt → validation b ≡ accepted tt
 block_valid b e k = sym e ∙ ap answer_of k
 
 -- the file's length, from how many blocks q the code counts

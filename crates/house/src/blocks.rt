@@ -3,25 +3,18 @@ ghost use Rattle.std.specs.Prelude.{◌≡◌, ◌+◌, ◌-◌, ◌*◌, ◌<�
 ghost use Rattle.std.proofs.lemmas.List.Edits.{sets};
 ghost use Rattle.house.specs.Bytes.{bytes_of, wrapping_sum};
 ghost use Rattle.tables.specs.Zeros.{copied};
-ghost use Rattle.house.specs.Frame.{effect_kind};
 ghost use Rattle.house.specs.File.{closed, blocks_for, file_of, file_length};
-ghost use Rattle.house.specs.Payload.{effect_payload, rendering_payload};
-ghost use Rattle.house.specs.Write.{most_samples, rendering_bytes};
-ghost use Rattle.house.specs.WriteLaws.{Small};
 
-use crate::{Contents, gather, payload, word_bytes};
+use crate::gather::Payload;
+use crate::word_bytes;
 
 // The wrapping sum of a block's payload.
 fn payload_sum(payload: [u32; 124]) -> u32
     ensures { result ≡ wrapping_sum payload }
 {
-    let mut sum: u32 = 0;
-    let mut i: usize = 0;
-    while i < 124 {
-        sum = std::num::wrapping_add_u32(sum, payload[i]);
-        i += 1;
-    }
-    sum
+    payload
+        .iter()
+        .fold(0u32, |sum, word| sum.wrapping_add(*word))
 }
 
 // The bytes of words, from `at` on.
@@ -29,10 +22,8 @@ fn put_words(bytes: &mut [u8], at: usize, words: &[u32])
     requires { at + 4 * length words.now ≤ length bytes.old }
     ensures { bytes.new ≡ sets bytes.old at (bytes_of words.now) }
 {
-    let mut i: usize = 0;
-    while i < words.len() {
-        word_bytes::put(bytes, at + 4 * i, words[i]);
-        i += 1;
+    for (i, word) in words.iter().enumerate() {
+        word_bytes::put(bytes, at + 4 * i, *word);
     }
 }
 
@@ -42,7 +33,7 @@ fn put_payload(bytes: &mut [u8], at: usize, payload: [u32; 124], used: u32)
     requires { at + 496 ≤ length bytes.old }
     ensures { bytes.new ≡ sets bytes.old at (bytes_of payload) }
 {
-    let count = payload::least(used as usize, 124);
+    let count = (used as usize).min(124);
     put_words(bytes, at, &payload[..count]);
     put_words(bytes, at + 4 * count, &payload[count..]);
 }
@@ -59,8 +50,8 @@ pub fn put_block(
     requires { at + 512 ≤ length bytes.old }
     ensures { bytes.new ≡ sets bytes.old at (bytes_of (closed (kind ∷ number ∷ used ∷ payload))) }
 {
-    let head = std::num::wrapping_add_u32(std::num::wrapping_add_u32(kind, number), used);
-    let sum = std::num::wrapping_add_u32(head, payload_sum(payload));
+    let head = kind.wrapping_add(number).wrapping_add(used);
+    let sum = head.wrapping_add(payload_sum(payload));
     word_bytes::put(bytes, at, kind);
     word_bytes::put(bytes, at + 4, number);
     word_bytes::put(bytes, at + 8, used);
@@ -81,53 +72,20 @@ fn used_words(count: usize, from: usize) -> u32
     requires { from ≤ count }
     ensures { result ≡ min 124 (count - from) }
 {
-    let left = count - from;
-    if left < 124 {
-        return left as u32;
-    }
-    124
+    (count - from).min(124) as u32
 }
 
-// The file of a rendering over the first bytes lent.
-pub fn write_samples(kind: u32, samples: &[u32], bytes: &mut [u8])
-    requires { (length samples.now ≤ most_samples) × (rendering_bytes samples.now ≤ length bytes.old) }
-    ensures { bytes.new ≡ copied (file_of kind (rendering_payload samples.now)) bytes.old }
+// The file of a payload of `count` words over the first bytes lent.
+pub fn write_file<P: Payload>(kind: u32, count: usize, payload: &P, bytes: &mut [u8])
+    requires counts { count ≡ length (P.words payload.now) }
+    requires small { count ≤ 4294967296 }
+    requires room { file_length (length (P.words payload.now)) ≤ length bytes.old }
+    ensures { bytes.new ≡ copied (file_of kind (P.words payload.now)) bytes.old }
 {
-    let held = samples.len() as u32;
-    let count = samples.len() + 1;
-    let blocks = blocks_for(count);
-    let mut b: usize = 0;
-    while b < blocks {
+    for b in 0..blocks_for(count) {
         let from = 124 * b;
-        let number = b as u32;
         let used = used_words(count, from);
-        let payload = gather::rendering_share(samples, held, from);
-        put_block(bytes, 512 * b, kind, number, used, payload);
-        b += 1;
-    }
-}
-
-// The file of an effect block over the first bytes lent.
-pub fn write_tables(
-    contents: Contents,
-    parameters: &[u32],
-    states: &[u32],
-    delays: &[u32],
-    nodes: &[u32],
-    bytes: &mut [u8],
-)
-    requires { Small parameters.now states.now delays.now nodes.now × (file_length (length (effect_payload contents parameters.now states.now delays.now nodes.now)) ≤ length bytes.old) }
-    ensures { bytes.new ≡ copied (file_of effect_kind (effect_payload contents parameters.now states.now delays.now nodes.now)) bytes.old }
-{
-    let count = 9 + parameters.len() + states.len() + delays.len() + nodes.len();
-    let blocks = blocks_for(count);
-    let mut b: usize = 0;
-    while b < blocks {
-        let from = 124 * b;
-        let number = b as u32;
-        let used = used_words(count, from);
-        let payload = gather::effect_share(contents, parameters, states, delays, nodes, from);
-        put_block(bytes, 512 * b, 1, number, used, payload);
-        b += 1;
+        let share = payload.share(from);
+        put_block(bytes, 512 * b, kind, b as u32, used, share);
     }
 }

@@ -2,12 +2,13 @@
 ghost use Rattle.std.specs.Prelude.{◌≡◌, ◌*◌, ◌/◌, ◌≤◌, false, length};
 ghost use Rattle.answers.specs.Numbers.{accepted};
 ghost use Rattle.house.specs.Payload.{contents_in, contents_of, states_at, delays_at, nodes_at, contents_end};
-ghost use Rattle.block.specs.Block.{block};
+ghost use Rattle.block.specs.Block.{the_block};
 ghost use Rattle.house.specs.WriteLaws.{Small};
-ghost use Rattle.house.specs.Read.{tables, tables_short, read_tables};
+ghost use Rattle.house.specs.Read.{tables_short, read_tables};
+ghost use Rattle.house.specs.Lent.{the_tables, KeepsTables};
 
-use crate::{Contents, payload};
-use block::Header;
+use crate::{Contents, Tables, payload};
+use block::{Block, Header};
 
 // The header and the counts: the payload's first nine words.
 pub fn contents(bytes: &[u8]) -> Contents
@@ -31,26 +32,16 @@ pub fn contents(bytes: &[u8]) -> Contents
 }
 
 // The header and the counts of a block that is written.
-pub fn contents_of(
-    header: Header,
-    parameters: &[u32],
-    states: &[u32],
-    delays: &[u32],
-    nodes: &[u32],
-) -> Contents
-    requires { Small parameters.now states.now delays.now nodes.now }
-    ensures { result ≡ contents_of (block header parameters.now states.now delays.now nodes.now) }
+pub fn contents_of(block: &Block<'_>) -> Contents
+    requires { Small block.now.parameters.now block.now.states.now block.now.delays.now block.now.nodes.now }
+    ensures { result ≡ contents_of (the_block block.now) }
 {
-    let first = (parameters.len() / 3) as u32;
-    let second = (states.len() / 2) as u32;
-    let third = (delays.len() / 2) as u32;
-    let fourth = (nodes.len() / 3) as u32;
     Contents {
-        header,
-        parameters: first,
-        states: second,
-        delays: third,
-        nodes: fourth,
+        header: block.header,
+        parameters: (block.parameters.len() / 3) as u32,
+        states: (block.states.len() / 2) as u32,
+        delays: (block.delays.len() / 2) as u32,
+        nodes: (block.nodes.len() / 3) as u32,
     }
 }
 
@@ -85,45 +76,32 @@ pub fn contents_end(contents: Contents) -> usize
 }
 
 // Whether a lent table is shorter than what the file has for it.
-pub fn tables_short(
-    contents: Contents,
-    parameters: &[u32],
-    states: &[u32],
-    delays: &[u32],
-    nodes: &[u32],
-) -> bool
-    ensures { result ≡ tables_short contents (tables parameters.now states.now delays.now nodes.now) }
+#[tactic(auto, unfolding(crate::specs::Read::tables_short))]
+pub fn tables_short(contents: Contents, tables: &Tables<'_>) -> bool
+    ensures { result ≡ tables_short contents (the_tables tables.now) }
 {
-    if parameters.len() < 3 * (contents.parameters as usize) {
-        return true;
-    }
-    if states.len() < 2 * (contents.states as usize) {
-        return true;
-    }
-    if delays.len() < 2 * (contents.delays as usize) {
-        return true;
-    }
-    nodes.len() < 3 * (contents.nodes as usize)
+    tables.parameters.len() < 3 * (contents.parameters as usize)
+        || tables.states.len() < 2 * (contents.states as usize)
+        || tables.delays.len() < 2 * (contents.delays as usize)
+        || tables.nodes.len() < 3 * (contents.nodes as usize)
 }
 
 // The four tables over the first words of the lent ones.
-pub fn copy_tables(
-    bytes: &[u8],
-    contents: Contents,
-    parameters: &mut [u32],
-    states: &mut [u32],
-    delays: &mut [u32],
-    nodes: &mut [u32],
-)
-    requires { (contents_end contents ≤ 124 * (length bytes.now / 512)) × (tables_short contents (tables parameters.old states.old delays.old nodes.old) ≡ false) }
-    ensures { tables parameters.new states.new delays.new nodes.new
-        ≡ read_tables (accepted contents) bytes.now (tables parameters.old states.old delays.old nodes.old) }
+pub fn copy_tables(bytes: &[u8], contents: Contents, tables: &mut Tables<'_>)
+    requires { (contents_end contents ≤ 124 * (length bytes.now / 512)) × (tables_short contents (the_tables tables.old) ≡ false) }
+    ensures read { the_tables tables.new ≡ read_tables (accepted contents) bytes.now (the_tables tables.old) }
+    ensures same_tables { KeepsTables tables.old tables.new }
 {
-    payload::copy_section(bytes, 9, parameters, 3 * (contents.parameters as usize));
+    payload::copy_section(
+        bytes,
+        9,
+        tables.parameters,
+        3 * (contents.parameters as usize),
+    );
     let first = states_at(contents);
-    payload::copy_section(bytes, first, states, 2 * (contents.states as usize));
+    payload::copy_section(bytes, first, tables.states, 2 * (contents.states as usize));
     let second = delays_at(contents);
-    payload::copy_section(bytes, second, delays, 2 * (contents.delays as usize));
+    payload::copy_section(bytes, second, tables.delays, 2 * (contents.delays as usize));
     let third = nodes_at(contents);
-    payload::copy_section(bytes, third, nodes, 3 * (contents.nodes as usize));
+    payload::copy_section(bytes, third, tables.nodes, 3 * (contents.nodes as usize));
 }

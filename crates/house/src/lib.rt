@@ -4,32 +4,43 @@
 pub mod blocks;
 mod effect;
 pub mod frame;
-mod gather;
+pub mod gather;
 pub mod payload;
 mod word_bytes;
 
 ghost use Rattle.std.specs.Prelude.{◌≡◌, ◌+◌};
+ghost use Rattle.answers.specs.Numbers.{answer_of};
+ghost use Rattle.block.specs.Block.{the_block};
 ghost use Rattle.house.specs.Payload.{contents_end, kind_of, engine_of};
 ghost use Rattle.house.specs.File.{file_length};
-ghost use Rattle.house.specs.Read.{tables, block_answer_of, block_outcome, read_block_call, rendering_answer_of, rendering_outcome, read_rendering_call};
-ghost use Rattle.block.specs.Block.{block};
-ghost use Rattle.house.specs.Write.{written_of, outcome, write_block_call, write_rendering_call};
+ghost use Rattle.house.specs.Lent.{the_tables, KeepsTables};
+ghost use Rattle.house.specs.Read.{block_outcome, read_block_call, rendering_outcome, read_rendering_call};
+ghost use Rattle.house.specs.Write.{outcome, write_block_call, write_rendering_call};
 
-use answers::{Refusal, Verdict};
-use block::Header;
+use answers::Refusal;
+use block::{Block, Header};
+use frame::Kinds;
+use gather::{Effect, Samples};
 
-// The kinds of a file.
+// The kinds of a file, which are its words.
 const EFFECT_KIND: u32 = 1;
 
 const GRAPH_KIND: u32 = 2;
 
 const STEP_KIND: u32 = 3;
 
-// Over this many samples a rendering is not written.
-const MOST_SAMPLES: usize = 0xffff_ffff;
+const EFFECTS: Kinds = Kinds {
+    low: EFFECT_KIND,
+    high: EFFECT_KIND,
+};
+
+const RENDERINGS: Kinds = Kinds {
+    low: GRAPH_KIND,
+    high: STEP_KIND,
+};
 
 // What an effect block's file says besides its four tables: the header, and how many records each table has.
-#[derive(Clone, Copy)]
+#[derive(Clone, Copy, Debug, PartialEq, Eq)]
 pub struct Contents {
     pub header: Header,
     pub parameters: u32,
@@ -38,70 +49,55 @@ pub struct Contents {
     pub nodes: u32,
 }
 
-// The answer of `read_block`.
-#[derive(Clone, Copy)]
-pub enum BlockRead {
-    Read(Contents),
-    Refused(Refusal),
+// The four tables that a block is read into.
+#[derive(Drop)]
+pub struct Tables<'a> {
+    pub parameters: &'a mut [u32],
+    pub states: &'a mut [u32],
+    pub delays: &'a mut [u32],
+    pub nodes: &'a mut [u32],
 }
 
 // Which engine made a rendering: the graph run or the step run.
-#[derive(Clone, Copy)]
+#[derive(Clone, Copy, Debug, PartialEq, Eq)]
 pub enum Engine {
     Graph,
     Steps,
 }
 
 // What a rendering's file says besides its samples.
-#[derive(Clone, Copy)]
+#[derive(Clone, Copy, Debug, PartialEq, Eq)]
 pub struct Rendering {
     pub engine: Engine,
     pub samples: u32,
 }
 
-// The answer of `read_rendering`.
-#[derive(Clone, Copy)]
-pub enum RenderingRead {
-    Read(Rendering),
-    Refused(Refusal),
-}
-
-// The answer of a writer: how many bytes the file has.
-#[derive(Clone, Copy)]
-pub enum Written {
-    Bytes(usize),
-    Refused(Refusal),
-}
-
-// The engine of a kind of rendering.
+// The engine of a kind of rendering. The frame has said that it is one of the two kinds.
 fn engine_of(kind: u32) -> Engine
     ensures { result ≡ engine_of kind }
 {
-    if kind == GRAPH_KIND {
-        return Engine::Graph;
+    match kind {
+        GRAPH_KIND => Engine::Graph,
+        _ => Engine::Steps,
     }
-    Engine::Steps
 }
 
 // Reads a rendering's samples over the first words of a lent table, and says which engine made it. Nothing is written where the answer is a refusal.
-pub fn read_rendering(bytes: &[u8], samples: &mut [u32]) -> RenderingRead
-    ensures { rendering_outcome (rendering_answer_of result) samples.new ≡ read_rendering_call bytes.now samples.old }
+pub fn read_rendering(bytes: &[u8], samples: &mut [u32]) -> Result<Rendering, Refusal>
+    ensures { rendering_outcome (answer_of result) samples.new ≡ read_rendering_call bytes.now samples.old }
 {
-    let verdict = frame::judge(bytes, GRAPH_KIND, STEP_KIND);
-    if let Verdict::Refused(refusal) = verdict {
-        return RenderingRead::Refused(refusal);
-    }
+    frame::judge(bytes, RENDERINGS)?;
     let held = payload::first_word(bytes, 0);
     let count = held as usize;
     if payload::payload_length(bytes) != 1 + count {
-        return RenderingRead::Refused(Refusal::BadFrame);
+        return Err(Refusal::BadFrame);
     }
     if samples.len() < count {
-        return RenderingRead::Refused(Refusal::TableTooShort);
+        return Err(Refusal::TableTooShort);
     }
     payload::copy_section(bytes, 1, samples, count);
     let engine = engine_of(frame::block_word(bytes, 0, 0));
-    RenderingRead::Read(Rendering {
+    Ok(Rendering {
         engine,
         samples: held,
     })
@@ -109,38 +105,31 @@ pub fn read_rendering(bytes: &[u8], samples: &mut [u32]) -> RenderingRead
 
 // Reads an effect block: its header and counts, and its tables over the first words of four lent ones. The block is not validated. Nothing is written
 // where the answer is a refusal.
-pub fn read_block(
-    bytes: &[u8],
-    parameters: &mut [u32],
-    states: &mut [u32],
-    delays: &mut [u32],
-    nodes: &mut [u32],
-) -> BlockRead
-    ensures { block_outcome (block_answer_of result) (tables parameters.new states.new delays.new nodes.new)
-        ≡ read_block_call bytes.now (tables parameters.old states.old delays.old nodes.old) }
+pub fn read_block(bytes: &[u8], tables: &mut Tables<'_>) -> Result<Contents, Refusal>
+    ensures read { block_outcome (answer_of result) (the_tables tables.new) ≡ read_block_call bytes.now (the_tables tables.old) }
+    ensures same_tables { KeepsTables tables.old tables.new }
 {
-    let verdict = frame::judge(bytes, EFFECT_KIND, EFFECT_KIND);
-    if let Verdict::Refused(refusal) = verdict {
-        return BlockRead::Refused(refusal);
-    }
+    frame::judge(bytes, EFFECTS)?;
     let read = effect::contents(bytes);
     if payload::payload_length(bytes) != effect::contents_end(read) {
-        return BlockRead::Refused(Refusal::BadFrame);
+        return Err(Refusal::BadFrame);
     }
-    if effect::tables_short(read, parameters, states, delays, nodes) {
-        return BlockRead::Refused(Refusal::TableTooShort);
+    if effect::tables_short(read, tables) {
+        return Err(Refusal::TableTooShort);
     }
-    effect::copy_tables(bytes, read, parameters, states, delays, nodes);
-    BlockRead::Read(read)
+    effect::copy_tables(bytes, read, tables);
+    Ok(read)
 }
 
 // The kind of an engine's renderings.
-pub fn kind_of(engine: Engine) -> u32
-    ensures { result ≡ kind_of engine }
-{
-    match engine {
-        Engine::Graph => GRAPH_KIND,
-        Engine::Steps => STEP_KIND,
+impl From<Engine> for u32 {
+    ghost from_gives = { λ engine kind. kind ≡ kind_of engine };
+
+    fn from(engine: Engine) -> u32 {
+        match engine {
+            Engine::Graph => GRAPH_KIND,
+            Engine::Steps => STEP_KIND,
+        }
     }
 }
 
@@ -159,43 +148,43 @@ pub fn block_bytes(contents: Contents) -> usize
     512 * blocks::blocks_for(effect::contents_end(contents))
 }
 
-// Writes a rendering's file over the first bytes of a lent buffer: 13 where there are too many samples or too few bytes, and then nothing is written.
-pub fn write_rendering(engine: Engine, samples: &[u32], bytes: &mut [u8]) -> Written
-    ensures { outcome (written_of result) bytes.new ≡ write_rendering_call engine samples.now bytes.old }
+// Writes a rendering's file over the first bytes of a lent buffer and says how many bytes it has: 13 where there are too many samples to count in a word or
+// too few bytes, and then nothing is written.
+pub fn write_rendering(engine: Engine, samples: &[u32], bytes: &mut [u8]) -> Result<usize, Refusal>
+    ensures { outcome (answer_of result) bytes.new ≡ write_rendering_call engine samples.now bytes.old }
 {
-    if MOST_SAMPLES < samples.len() {
-        return Written::Refused(Refusal::TableTooShort);
-    }
-    let need = 512 * blocks::blocks_for(samples.len() + 1);
+    let Ok(count) = u32::try_from(samples.len()) else {
+        return Err(Refusal::TableTooShort);
+    };
+    let need = rendering_bytes(count);
     if bytes.len() < need {
-        return Written::Refused(Refusal::TableTooShort);
+        return Err(Refusal::TableTooShort);
     }
-    blocks::write_samples(kind_of(engine), samples, bytes);
-    Written::Bytes(need)
+    let payload = Samples { count, samples };
+    blocks::write_file(u32::from(engine), samples.len() + 1, &payload, bytes);
+    Ok(need)
 }
 
-// Validates an effect block and writes its file over the first bytes of a lent buffer: 13 where there are too few bytes. A refusal leaves the buffer.
-pub fn write_block(
-    header: Header,
-    parameters: &[u32],
-    states: &[u32],
-    delays: &[u32],
-    nodes: &[u32],
-    bytes: &mut [u8],
-) -> Written
-    ensures { outcome (written_of result) bytes.new
-        ≡ write_block_call (block header parameters.now states.now delays.now nodes.now) bytes.old }
+// Validates an effect block, writes its file over the first bytes of a lent buffer and says how many bytes it has: 13 where there are too few. A refusal
+// leaves the buffer.
+pub fn write_block(block: &Block<'_>, bytes: &mut [u8]) -> Result<usize, Refusal>
+    ensures { outcome (answer_of result) bytes.new ≡ write_block_call (the_block block.now) bytes.old }
 {
-    let verdict = block::validate(header, parameters, states, delays, nodes);
-    if let Verdict::Refused(refusal) = verdict {
-        return Written::Refused(refusal);
-    }
-    let contents = effect::contents_of(header, parameters, states, delays, nodes);
-    let count = 9 + parameters.len() + states.len() + delays.len() + nodes.len();
+    block.validate()?;
+    let contents = effect::contents_of(block);
+    let count = 9
+        + block.parameters.len()
+        + block.states.len()
+        + block.delays.len()
+        + block.nodes.len();
     let need = 512 * blocks::blocks_for(count);
     if bytes.len() < need {
-        return Written::Refused(Refusal::TableTooShort);
+        return Err(Refusal::TableTooShort);
     }
-    blocks::write_tables(contents, parameters, states, delays, nodes, bytes);
-    Written::Bytes(need)
+    let payload = Effect {
+        contents,
+        block: *block,
+    };
+    blocks::write_file(EFFECT_KIND, count, &payload, bytes);
+    Ok(need)
 }

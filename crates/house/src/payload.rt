@@ -1,5 +1,5 @@
 // The payload of a file that is read: its words, one behind the other over all blocks.
-ghost use Rattle.std.specs.Prelude.{◌≡◌, ◌+◌, ◌*◌, ◌/◌, ◌≤◌, min, length};
+ghost use Rattle.std.specs.Prelude.{◌≡◌, ◌+◌, ◌*◌, ◌/◌, ◌≤◌, length};
 ghost use Rattle.std.proofs.lemmas.List.Edits.{sets};
 ghost use Rattle.tables.specs.Lists.{list_of};
 ghost use Rattle.tables.specs.Zeros.{copied};
@@ -7,16 +7,6 @@ ghost use Rattle.house.specs.Bytes.{words_from};
 ghost use Rattle.house.specs.Frame.{payload_word, payload_length, section};
 
 use crate::{frame, word_bytes};
-
-// The smaller of two numbers.
-pub fn least(a: usize, b: usize) -> usize
-    ensures { result ≡ min a b }
-{
-    if a < b {
-        return a;
-    }
-    b
-}
 
 // How many words the payload has.
 pub fn payload_length(bytes: &[u8]) -> usize
@@ -41,10 +31,8 @@ fn copy_words(bytes: &[u8], at: usize, table: &mut [u32], to: usize, count: usiz
     requires { (at + 4 * count ≤ length bytes.now) × (to + count ≤ length table.old) }
     ensures { table.new ≡ sets table.old to (list_of (words_from bytes.now at) count) }
 {
-    let mut i: usize = 0;
-    while i < count {
+    for i in 0..count {
         table[to + i] = word_bytes::word(bytes, at + 4 * i);
-        i += 1;
     }
 }
 
@@ -54,10 +42,11 @@ pub fn copy_section(bytes: &[u8], from: usize, table: &mut [u32], count: usize)
     ensures { table.new ≡ copied (section bytes.now from count) table.old }
 {
     let mut i: usize = 0;
+    // No range counts `i`: it goes up by what a block has of the section.
     while i < count {
         let number = (from + i) / 124;
         let place = (from + i) % 124;
-        let here = least(124 - place, count - i);
+        let here = (124 - place).min(count - i);
         copy_words(bytes, 512 * number + 12 + 4 * place, table, i, here);
         i += here;
     }

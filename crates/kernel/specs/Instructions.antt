@@ -1,9 +1,7 @@
 -- An instruction and its two words: "code×4096+dst×256+lhs×16+rhs, immediate". Definitions alone.
-use Rattle.std.specs.Prelude.{Bool, cond, ◌&&◌, List, ℕ, ◌+◌, ◌*◌, ◌/◌, ◌%◌, eqb, get_or}
+use Rattle.std.specs.Prelude.{Bool, cond, ◌&&◌, List, ℕ, ◌+◌, ◌*◌, ◌/◌, ◌%◌, eqb, get_or, Option, Some, None}
 use Rattle.kernel.specs.declared.Instruction.{Instruction}
 use Rattle.kernel.specs.declared.Instruction.TheVariants.{Immediate, Add, Sub, Mul, Min, Max, Neg, Abs, IntegerSub}
-use Rattle.kernel.specs.declared.InstructionWords.{InstructionWords}
-use Rattle.kernel.specs.declared.InstructionWords.TheVariants.{Formed, Malformed}
 
 -- a word of four parts, each register below 16
 abbrev pub packed : ℕ → ℕ → ℕ → ℕ → ℕ
@@ -45,11 +43,11 @@ destination (Abs dst src) = dst
 destination (IntegerSub dst lhs rhs) = dst
 
 -- an instruction whose unused parts are 0
-abbrev pub formed_if : Bool → Instruction → InstructionWords
-formed_if unused_zero instruction = cond unused_zero (Formed instruction) Malformed
+abbrev pub formed_if : Bool → Instruction → Option Instruction
+formed_if unused_zero instruction = cond unused_zero (Some instruction) None
 
 -- the instruction of a code, three registers and an immediate
-unfoldable pub instruction_from : ℕ → ℕ → ℕ → ℕ → ℕ → InstructionWords
+unfoldable pub instruction_from : ℕ → ℕ → ℕ → ℕ → ℕ → Option Instruction
 instruction_from code dst lhs rhs immediate =
     cond (eqb code 1) (formed_if (eqb lhs 0 && eqb rhs 0) (Immediate dst immediate))
     (cond (eqb code 2) (formed_if (eqb immediate 0) (Add dst lhs rhs))
@@ -59,16 +57,16 @@ instruction_from code dst lhs rhs immediate =
     (cond (eqb code 6) (formed_if (eqb immediate 0) (Max dst lhs rhs))
     (cond (eqb code 7) (formed_if (eqb rhs 0 && eqb immediate 0) (Neg dst lhs))
     (cond (eqb code 8) (formed_if (eqb rhs 0 && eqb immediate 0) (Abs dst lhs))
-    (cond (eqb code 9) (formed_if (eqb immediate 0) (IntegerSub dst lhs rhs)) Malformed))))))))
+    (cond (eqb code 9) (formed_if (eqb immediate 0) (IntegerSub dst lhs rhs)) None))))))))
 
-unfoldable pub instruction_of : ℕ → ℕ → InstructionWords
+unfoldable pub instruction_of : ℕ → ℕ → Option Instruction
 instruction_of word immediate = instruction_from (word / 4096) (word / 256 % 16) (word / 16 % 16) (word % 16) immediate
 
 -- the instruction that words are, or another if they are none
-abbrev pub instruction_or : Instruction → InstructionWords → Instruction
-instruction_or other (Formed instruction) = instruction
-instruction_or other Malformed = other
+abbrev pub instruction_or : Instruction → Option Instruction → Instruction
+instruction_or other (Some instruction) = instruction
+instruction_or other None = other
 
 -- instruction i of a table
-abbrev pub instruction_at : List ℕ → ℕ → InstructionWords
+abbrev pub instruction_at : List ℕ → ℕ → Option Instruction
 instruction_at instructions i = instruction_of (get_or instructions (2 * i) 0) (get_or instructions (2 * i + 1) 0)

@@ -1,5 +1,5 @@
 -- What it means that a list may run, step by step, and the ways out of the functions that test it. Assumes nothing.
-use Rattle.std.specs.Prelude.{◌≡◌, refl, true, false, not, List, ℕ, ◌+◌, ◌*◌, ◌≤◌, ◌<◌, eqb, length}
+use Rattle.std.specs.Prelude.{◌≡◌, refl, true, false, not, List, ℕ, ◌+◌, ◌*◌, ◌≤◌, ◌<◌, eqb, length, Option, Some, None}
 use Rattle.std.proofs.Common.{sym, ◌∙◌, ltb-true, ne_eqb}
 use Rattle.std.proofs.Math.Path.{ap}
 use native.Mathlib.Omega.{arith}
@@ -8,9 +8,7 @@ use Rattle.tables.specs.Tests.{&_both, &_true, &_left, &_right, &_next, true_fal
 use Rattle.kernel.specs.declared.Source.{Source}
 use Rattle.kernel.specs.declared.Step.{Step}
 use Rattle.kernel.specs.declared.Step.TheVariants.{Load, Compute, Spill, Reload, StoreState, StoreDelay, StoreOutput, StoreControl}
-use Rattle.kernel.specs.declared.StepWords.{StepWords}
 use Rattle.kernel.specs.declared.Instruction.{Instruction}
-use Rattle.kernel.specs.declared.InstructionWords.{InstructionWords}
 use Rattle.kernel.specs.declared.Phase.{Phase}
 use Rattle.kernel.specs.declared.Phase.TheVariants.{Control, Sample}
 use Rattle.kernel.specs.declared.Kernel.{Kernel}
@@ -38,11 +36,11 @@ module _ (n : Sizes) (instructions : List ℕ) (phase : Phase) (step : Step) whe
 
 -- step i of a table, by its words
 module _ (n : Sizes) (steps instructions : List ℕ) (phase : Phase) (i : ℕ) where
-  pub malformed_barred : step_at steps i ≡ StepWords.Malformed → may_run n steps instructions phase i ≡ false
+  pub malformed_barred : step_at steps i ≡ None → may_run n steps instructions phase i ≡ false
   unfolding may_run
   malformed_barred e = ap (words_may_run n instructions phase) e
 
-  pub formed_decided : (step : Step) → step_at steps i ≡ StepWords.Formed step → may_run n steps instructions phase i ≡ step_may_run n instructions phase step
+  pub formed_decided : (step : Step) → step_at steps i ≡ Some step → may_run n steps instructions phase i ≡ step_may_run n instructions phase step
   unfolding may_run
   formed_decided step e = ap (words_may_run n instructions phase) e
 
@@ -73,27 +71,27 @@ module _ (n : Sizes) (steps instructions : List ℕ) (k : Kernel) where
 -- ---- what a list that may run says of its steps
 
 -- words may run in a phase: they are a step that the phase allows, with its index inside, and with a well formed instruction where it computes
-pub record MayRun (n : Sizes) (instructions : List ℕ) (phase : Phase) (words : StepWords) : Type 0 where
+pub record MayRun (n : Sizes) (instructions : List ℕ) (phase : Phase) (words : Option Step) : Type 0 where
   pub step : Step
-  pub formed : words ≡ StepWords.Formed step
+  pub formed : words ≡ Some step
   pub allowed : allowed_in phase step ≡ true
   pub inside : index_inside n step ≡ true
   pub computes : computes_formed instructions step ≡ true
 
 module _ (n : Sizes) (instructions : List ℕ) (phase : Phase) where
-  pub step_may_run_lem : (step : Step) → step_may_run n instructions phase step ≡ true → MayRun n instructions phase (StepWords.Formed step)
+  pub step_may_run_lem : (step : Step) → step_may_run n instructions phase step ≡ true → MayRun n instructions phase (Some step)
   unfolding step_may_run
   step_may_run_lem step e =
       let (a, r) = &_both (allowed_in phase step) _ e in
       let (i, f) = &_both (index_inside n step) _ r in
       record { step = step; formed = refl; allowed = a; inside = i; computes = f }
 
-  pub words_may_run_lem : (words : StepWords) → words_may_run n instructions phase words ≡ true → MayRun n instructions phase words
-  words_may_run_lem (StepWords.Formed step) e = step_may_run_lem step e
-  words_may_run_lem StepWords.Malformed e = true_false (sym e)
+  pub words_may_run_lem : (words : Option Step) → words_may_run n instructions phase words ≡ true → MayRun n instructions phase words
+  words_may_run_lem (Some step) e = step_may_run_lem step e
+  words_may_run_lem None e = true_false (sym e)
 
   -- and back
-  pub may_run_words : (words : StepWords) → MayRun n instructions phase words → words_may_run n instructions phase words ≡ true
+  pub may_run_words : (words : Option Step) → MayRun n instructions phase words → words_may_run n instructions phase words ≡ true
   unfolding step_may_run
   may_run_words words m = rw m.formed (&_true _ _ m.allowed (&_true _ _ m.inside m.computes))
 
@@ -169,24 +167,24 @@ is_inside n (StoreOutput register) e = tt
 is_inside n (StoreControl slot register) e = ltb-true _ _ e
 
 -- the instruction of words that are well formed
-pub formed_instruction : (words : InstructionWords) → is_formed words ≡ true → (instruction : Instruction) × (words ≡ InstructionWords.Formed instruction)
-formed_instruction (InstructionWords.Formed instruction) e = (instruction, refl)
-formed_instruction InstructionWords.Malformed e = true_false (sym e)
+pub formed_instruction : (words : Option Instruction) → is_formed words ≡ true → (instruction : Instruction) × (words ≡ Some instruction)
+formed_instruction (Some instruction) e = (instruction, refl)
+formed_instruction None e = true_false (sym e)
 
-module _ {n : Sizes} {instructions : List ℕ} {phase : Phase} {words : StepWords} (m : MayRun n instructions phase words) where
+module _ {n : Sizes} {instructions : List ℕ} {phase : Phase} {words : Option Step} (m : MayRun n instructions phase words) where
   -- the step that these words are
-  pub step_of : (step : Step) → words ≡ StepWords.Formed step → m.step ≡ step
+  pub step_of : (step : Step) → words ≡ Some step → m.step ≡ step
   step_of step e = let f = m.formed in cc
 
   -- .. its index is inside: of `StoreDelay delay register` that delay < n.delays
-  pub inside_of : (step : Step) → words ≡ StepWords.Formed step → Inside n step
+  pub inside_of : (step : Step) → words ≡ Some step → Inside n step
   inside_of step e = is_inside n step (rw (step_of step e) at m.inside)
 
   -- .. its phase allows it
-  pub allowed_of : (step : Step) → words ≡ StepWords.Formed step → allowed_in phase step ≡ true
+  pub allowed_of : (step : Step) → words ≡ Some step → allowed_in phase step ≡ true
   allowed_of step e = rw (step_of step e) at m.allowed
 
   -- .. what it computes is an instruction
-  pub instruction_of : (i : ℕ) → words ≡ StepWords.Formed (Compute i)
-      → (instruction : Instruction) × (instruction_at instructions i ≡ InstructionWords.Formed instruction)
+  pub instruction_of : (i : ℕ) → words ≡ Some (Compute i)
+      → (instruction : Instruction) × (instruction_at instructions i ≡ Some instruction)
   instruction_of i e = formed_instruction (instruction_at instructions i) (rw (step_of (Compute i) e) at m.computes)

@@ -1,28 +1,20 @@
 -- Answer 15: which step lists may run. "a step malformed or barred from its phase (see the checker), a malformed computed instruction, an index outside
 -- its table or declared count, no sample steps". Definitions alone.
-use Rattle.std.specs.Prelude.{Bool, true, false, not, List, ℕ, ◌+◌, ◌*◌, ◌≤◌, eqb, ltb, length}
+use Rattle.std.specs.Prelude.{Bool, true, false, not, List, ℕ, ◌+◌, ◌*◌, ◌≤◌, eqb, ltb, length, Option, Some, None}
 use Rattle.tables.specs.Loops.{every}
 use Rattle.tables.specs.Tests.{◌&◌}
 use Rattle.kernel.specs.declared.Source.{Source}
 use Rattle.kernel.specs.declared.Step.{Step}
 use Rattle.kernel.specs.declared.Step.TheVariants.{Load, Compute, Spill, Reload, StoreState, StoreDelay, StoreOutput, StoreControl}
-use Rattle.kernel.specs.declared.StepWords.{StepWords}
-use Rattle.kernel.specs.declared.InstructionWords.{InstructionWords}
+use Rattle.kernel.specs.declared.Instruction.{Instruction}
 use Rattle.kernel.specs.declared.Phase.{Phase}
 use Rattle.kernel.specs.declared.Phase.TheVariants.{Control, Sample}
 use Rattle.kernel.specs.declared.Kernel.{Kernel}
+pub use Rattle.kernel.specs.declared.Sizes.{Sizes}
 use Rattle.kernel.specs.Steps.{step_at, allowed_in}
 use Rattle.kernel.specs.Instructions.{instruction_at}
 
 -- how many there are of what steps index: the block's tables and the kernel's declared counts
-pub record Sizes : Type 0 where
-  pub parameters : ℕ
-  pub states : ℕ
-  pub delays : ℕ
-  pub instructions : ℕ
-  pub control_slots : ℕ
-  pub spill_slots : ℕ
-
 abbrev pub sizes : ℕ → ℕ → ℕ → Kernel → Sizes
 sizes parameters states delays k =
     record {
@@ -54,9 +46,9 @@ index_inside n (StoreDelay delay register) = ltb delay n.delays
 index_inside n (StoreOutput register) = true
 index_inside n (StoreControl slot register) = ltb slot n.control_slots
 
-abbrev pub is_formed : InstructionWords → Bool
-is_formed (InstructionWords.Formed instruction) = true
-is_formed InstructionWords.Malformed = false
+abbrev pub is_formed : Option Instruction → Bool
+is_formed (Some instruction) = true
+is_formed None = false
 
 -- the instruction that a step computes is well formed; instructions that no step computes are not looked at
 abbrev pub computes_formed : List ℕ → Step → Bool
@@ -74,9 +66,9 @@ unfoldable pub step_may_run : Sizes → List ℕ → Phase → Step → Bool
 step_may_run n instructions phase step = allowed_in phase step & index_inside n step & computes_formed instructions step
 
 -- .. and so may its words
-abbrev pub words_may_run : Sizes → List ℕ → Phase → StepWords → Bool
-words_may_run n instructions phase (StepWords.Formed step) = step_may_run n instructions phase step
-words_may_run n instructions phase StepWords.Malformed = false
+abbrev pub words_may_run : Sizes → List ℕ → Phase → Option Step → Bool
+words_may_run n instructions phase (Some step) = step_may_run n instructions phase step
+words_may_run n instructions phase None = false
 
 -- step i of a table may
 unfoldable pub may_run : Sizes → List ℕ → List ℕ → Phase → ℕ → Bool

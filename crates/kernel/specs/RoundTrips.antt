@@ -1,16 +1,14 @@
 -- Words and what they say: a step with a register below 16 is read back from its words as it was, and words that are a step are that step's words. So no
 -- two pairs of words are one step. The same of instructions. Assumes nothing.
-use Rattle.std.specs.Prelude.{◌≡◌, Bool, true, cond, ◌&&◌, ℕ, ◌+◌, ◌*◌, ◌/◌, ◌%◌, ◌≤◌, ◌<◌, eqb}
+use Rattle.std.specs.Prelude.{◌≡◌, Bool, true, cond, ◌&&◌, ℕ, ◌+◌, ◌*◌, ◌/◌, ◌%◌, ◌≤◌, ◌<◌, eqb, Option, Some, None}
 use Rattle.std.proofs.Math.Path.{refl, sym}
 use Rattle.std.proofs.Common.{◌∙◌, arith, eqb-true}
 use Rattle.tables.specs.Tests.{cond_pred, both}
 use Rattle.kernel.specs.declared.Source.{Source}
 use Rattle.kernel.specs.declared.Step.{Step}
 use Rattle.kernel.specs.declared.Step.TheVariants.{Load, Compute, Spill, Reload, StoreState, StoreDelay, StoreOutput, StoreControl}
-use Rattle.kernel.specs.declared.StepWords.{StepWords}
 use Rattle.kernel.specs.declared.Instruction.{Instruction}
 use Rattle.kernel.specs.declared.Instruction.TheVariants.{Immediate, Add, Sub, Mul, Min, Max, Neg, Abs, IntegerSub}
-use Rattle.kernel.specs.declared.InstructionWords.{InstructionWords}
 use Rattle.kernel.specs.Steps.{step_code, step_register, step_index, step_word, unused_zero, step_from, step_of}
 use Rattle.kernel.specs.Instructions.{packed, instruction_word, instruction_immediate, formed_if, instruction_from, instruction_of}
 
@@ -44,7 +42,7 @@ register_of : (code register : ℕ) → register < 16 → (code * 16 + register 
 register_of code register h = omega arith
 
 -- a code and a register are a step
-from_step : (step : Step) → step_from (step_code step) (step_register step) (step_index step) ≡ StepWords.Formed step
+from_step : (step : Step) → step_from (step_code step) (step_register step) (step_index step) ≡ Some step
 unfolding step_from
 from_step (Load Source.Audio register) = refl
 from_step (Load Source.Network register) = refl
@@ -61,7 +59,7 @@ from_step (StoreOutput register) = refl
 from_step (StoreControl slot register) = refl
 
 -- a step with a register below 16 is read back from its words
-pub step_read_back : (step : Step) → step_register step < 16 → step_of (step_word step) (step_index step) ≡ StepWords.Formed step
+pub step_read_back : (step : Step) → step_register step < 16 → step_of (step_word step) (step_index step) ≡ Some step
 unfolding step_of step_word
 step_read_back step h =
     rw (code_of (step_code step) (step_register step) h, register_of (step_code step) (step_register step) h) (from_step step)
@@ -73,14 +71,14 @@ record Of (code register index : ℕ) (step : Step) : Type 0 where
   has_index : step_index step ≡ index
 
 -- words, where they are a step, are of this code, this register and this index
-abbrev Reads : ℕ → ℕ → ℕ → StepWords → Type 0
-Reads code register index words = (step : Step) → words ≡ StepWords.Formed step → Of code register index step
+abbrev Reads : ℕ → ℕ → ℕ → Option Step → Type 0
+Reads code register index words = (step : Step) → words ≡ Some step → Of code register index step
 
 module _ (code register index : ℕ) where
-  reads : (step : Step) → Of code register index step → Reads code register index (StepWords.Formed step)
+  reads : (step : Step) → Of code register index step → Reads code register index (Some step)
   reads step o other e = let q : step ≡ other = cc in rw q at o
 
-  reads_nothing : Reads code register index StepWords.Malformed
+  reads_nothing : Reads code register index None
   reads_nothing step e = absurd (let z : ◌≡◌ {A = ℕ} 0 1 = cc in omega arith)
 
   reads_unused : (part : ℕ) (step : Step) → (part ≡ 0 → Of code register index step) → Reads code register index (unused_zero part step)
@@ -88,7 +86,7 @@ module _ (code register index : ℕ) where
       cond_pred (Reads code register index) (eqb part 0) (λ e. reads step (o (eqb-true part 0 e))) (λ e. reads_nothing)
 
   -- one code of the table
-  code_reads : (k : ℕ) {x y : StepWords} → (k ≡ code → Reads code register index x) → Reads code register index y
+  code_reads : (k : ℕ) {x y : Option Step} → (k ≡ code → Reads code register index x) → Reads code register index y
       → Reads code register index (cond (eqb code k) x y)
   code_reads k f g = cond_pred (Reads code register index) (eqb code k) (λ e. f (sym (eqb-true code k e))) (λ e. g)
 
@@ -115,19 +113,19 @@ word_of : (word code register : ℕ) → code ≡ word / 16 → register ≡ wor
 word_of word code register c r = omega arith
 
 -- the words of a step are its words
-pub step_words : (word index : ℕ) (step : Step) → step_of word index ≡ StepWords.Formed step → (step_word step ≡ word) × (step_index step ≡ index)
+pub step_words : (word index : ℕ) (step : Step) → step_of word index ≡ Some step → (step_word step ≡ word) × (step_index step ≡ index)
 unfolding step_of step_word
 step_words word index step e =
     let o = step_from_reads (word / 16) (word % 16) index step e in
     (word_of word (step_code step) (step_register step) o.has_code o.has_register, o.has_index)
 
 -- a step that was read has a register below 16
-pub step_register_small : (word index : ℕ) (step : Step) → step_of word index ≡ StepWords.Formed step → step_register step < 16
+pub step_register_small : (word index : ℕ) (step : Step) → step_of word index ≡ Some step → step_register step < 16
 unfolding step_of
 step_register_small word index step e = omega (arith, (step_from_reads (word / 16) (word % 16) index step e).has_register)
 
 -- no two pairs of words are one step
-pub step_once : (word index word' index' : ℕ) (step : Step) → step_of word index ≡ StepWords.Formed step → step_of word' index' ≡ StepWords.Formed step
+pub step_once : (word index word' index' : ℕ) (step : Step) → step_of word index ≡ Some step → step_of word' index' ≡ Some step
     → (word ≡ word') × (index ≡ index')
 step_once word index word' index' step e e' =
     let a = step_words word index step e in
@@ -173,7 +171,7 @@ unpacked code dst lhs rhs immediate d l r =
 
 -- an instruction with registers below 16 is read back from its words
 pub instruction_read_back : (instruction : Instruction) → InRegisters instruction
-    → instruction_of (instruction_word instruction) (instruction_immediate instruction) ≡ InstructionWords.Formed instruction
+    → instruction_of (instruction_word instruction) (instruction_immediate instruction) ≡ Some instruction
 unfolding instruction_from
 instruction_read_back (Immediate dst value) h = unpacked 1 dst 0 0 value h (omega arith) (omega arith)
 instruction_read_back (Add dst lhs rhs) h = unpacked 2 dst lhs rhs 0 h.0 h.1 h.2
@@ -193,10 +191,10 @@ record Packs (code dst lhs rhs immediate : ℕ) (instruction : Instruction) : Ty
 
 module _ (code dst lhs rhs immediate : ℕ) where
   -- words, where they are an instruction, are these parts
-  abbrev Parts : InstructionWords → Type 0
-  Parts words = (instruction : Instruction) → words ≡ InstructionWords.Formed instruction → Packs code dst lhs rhs immediate instruction
+  abbrev Parts : Option Instruction → Type 0
+  Parts words = (instruction : Instruction) → words ≡ Some instruction → Packs code dst lhs rhs immediate instruction
 
-  parts_nothing : Parts InstructionWords.Malformed
+  parts_nothing : Parts None
   parts_nothing instruction e = absurd (let z : ◌≡◌ {A = ℕ} 0 1 = cc in omega arith)
 
   -- an instruction whose unused parts are 0
@@ -205,7 +203,7 @@ module _ (code dst lhs rhs immediate : ℕ) where
       cond_pred Parts test (λ t other e. let q : instruction ≡ other = cc in rw q at (p t)) (λ t. parts_nothing)
 
   -- one code of the table
-  code_parts : (k : ℕ) {x y : InstructionWords} → (k ≡ code → Parts x) → Parts y → Parts (cond (eqb code k) x y)
+  code_parts : (k : ℕ) {x y : Option Instruction} → (k ≡ code → Parts x) → Parts y → Parts (cond (eqb code k) x y)
   code_parts k f g = cond_pred Parts (eqb code k) (λ e. f (sym (eqb-true code k e))) (λ e. g)
 
   -- three registers, no immediate
@@ -263,7 +261,7 @@ repacked word =
     (omega arith)
 
 -- the words of an instruction are its words
-pub instruction_words : (word immediate : ℕ) (instruction : Instruction) → instruction_of word immediate ≡ InstructionWords.Formed instruction
+pub instruction_words : (word immediate : ℕ) (instruction : Instruction) → instruction_of word immediate ≡ Some instruction
     → (instruction_word instruction ≡ word) × (instruction_immediate instruction ≡ immediate)
 unfolding instruction_of
 instruction_words word immediate instruction e =
@@ -271,15 +269,15 @@ instruction_words word immediate instruction e =
     (p.word ∙ repacked word, p.second)
 
 -- an instruction that was read has registers below 16
-pub instruction_registers_small : (word immediate : ℕ) (instruction : Instruction) → instruction_of word immediate ≡ InstructionWords.Formed instruction
+pub instruction_registers_small : (word immediate : ℕ) (instruction : Instruction) → instruction_of word immediate ≡ Some instruction
     → InRegisters instruction
 unfolding instruction_of
 instruction_registers_small word immediate instruction e =
     (from_parts (word / 4096) (word / 256 % 16) (word / 16 % 16) (word % 16) immediate instruction e).registers (omega arith) (omega arith) (omega arith)
 
 -- no two pairs of words are one instruction
-pub instruction_once : (word immediate word' immediate' : ℕ) (instruction : Instruction) → instruction_of word immediate ≡ InstructionWords.Formed instruction
-    → instruction_of word' immediate' ≡ InstructionWords.Formed instruction → (word ≡ word') × (immediate ≡ immediate')
+pub instruction_once : (word immediate word' immediate' : ℕ) (instruction : Instruction) → instruction_of word immediate ≡ Some instruction
+    → instruction_of word' immediate' ≡ Some instruction → (word ≡ word') × (immediate ≡ immediate')
 instruction_once word immediate word' immediate' instruction e e' =
     let a = instruction_words word immediate instruction e in
     let b = instruction_words word' immediate' instruction e' in

@@ -1,10 +1,8 @@
 -- A step and its two words: "code×16+register, index". Definitions alone.
-use Rattle.std.specs.Prelude.{Bool, true, false, cond, not, List, ℕ, ◌+◌, ◌*◌, ◌/◌, ◌%◌, eqb, get_or}
+use Rattle.std.specs.Prelude.{Bool, true, false, cond, not, List, ℕ, ◌+◌, ◌*◌, ◌/◌, ◌%◌, eqb, get_or, Option, Some, None}
 use Rattle.kernel.specs.declared.Source.{Source}
 use Rattle.kernel.specs.declared.Step.{Step}
 use Rattle.kernel.specs.declared.Step.TheVariants.{Load, Compute, Spill, Reload, StoreState, StoreDelay, StoreOutput, StoreControl}
-use Rattle.kernel.specs.declared.StepWords.{StepWords}
-use Rattle.kernel.specs.declared.StepWords.TheVariants.{Formed, Malformed}
 use Rattle.kernel.specs.declared.Phase.{Phase}
 use Rattle.kernel.specs.declared.Phase.TheVariants.{Control, Sample}
 
@@ -63,36 +61,36 @@ unfoldable pub step_word : Step → ℕ
 step_word step = step_code step * 16 + step_register step % 16
 
 -- a step whose unused part is 0
-abbrev pub unused_zero : ℕ → Step → StepWords
-unused_zero part step = cond (eqb part 0) (Formed step) Malformed
+abbrev pub unused_zero : ℕ → Step → Option Step
+unused_zero part step = cond (eqb part 0) (Some step) None
 
 -- the step of a code, a register and an index
-unfoldable pub step_from : ℕ → ℕ → ℕ → StepWords
+unfoldable pub step_from : ℕ → ℕ → ℕ → Option Step
 step_from code register index =
     cond (eqb code 1) (unused_zero index (Load Source.Audio register))
     (cond (eqb code 2) (unused_zero index (Load Source.Network register))
-    (cond (eqb code 3) (Formed (Load (Source.Parameter index) register))
-    (cond (eqb code 4) (Formed (Load (Source.State index) register))
-    (cond (eqb code 5) (Formed (Load (Source.Delay index) register))
-    (cond (eqb code 6) (Formed (Load (Source.Control index) register))
+    (cond (eqb code 3) (Some (Load (Source.Parameter index) register))
+    (cond (eqb code 4) (Some (Load (Source.State index) register))
+    (cond (eqb code 5) (Some (Load (Source.Delay index) register))
+    (cond (eqb code 6) (Some (Load (Source.Control index) register))
     (cond (eqb code 7) (unused_zero register (Compute index))
-    (cond (eqb code 8) (Formed (Spill index register))
-    (cond (eqb code 9) (Formed (Reload index register))
-    (cond (eqb code 10) (Formed (StoreState index register))
-    (cond (eqb code 11) (Formed (StoreDelay index register))
+    (cond (eqb code 8) (Some (Spill index register))
+    (cond (eqb code 9) (Some (Reload index register))
+    (cond (eqb code 10) (Some (StoreState index register))
+    (cond (eqb code 11) (Some (StoreDelay index register))
     (cond (eqb code 12) (unused_zero index (StoreOutput register))
-    (cond (eqb code 13) (Formed (StoreControl index register)) Malformed))))))))))))
+    (cond (eqb code 13) (Some (StoreControl index register)) None))))))))))))
 
-unfoldable pub step_of : ℕ → ℕ → StepWords
+unfoldable pub step_of : ℕ → ℕ → Option Step
 step_of word index = step_from (word / 16) (word % 16) index
 
 -- the step that words are, or another if they are none
-abbrev pub step_or : Step → StepWords → Step
-step_or other (Formed step) = step
-step_or other Malformed = other
+abbrev pub step_or : Step → Option Step → Step
+step_or other (Some step) = step
+step_or other None = other
 
 -- step i of a table
-abbrev pub step_at : List ℕ → ℕ → StepWords
+abbrev pub step_at : List ℕ → ℕ → Option Step
 step_at steps i = step_of (get_or steps (2 * i) 0) (get_or steps (2 * i + 1) 0)
 
 -- "control has codes 3, 6, 7 and 13 only, sample all but 13"

@@ -6,7 +6,7 @@ pub mod lists;
 pub mod steps;
 
 // Where a load reads.
-#[derive(Clone, Copy)]
+#[derive(Clone, Copy, Debug, PartialEq, Eq)]
 pub enum Source {
     Audio,
     Network,
@@ -17,7 +17,7 @@ pub enum Source {
 }
 
 // One action of a phase.
-#[derive(Clone, Copy)]
+#[derive(Clone, Copy, Debug, PartialEq, Eq)]
 pub enum Step {
     Load { source: Source, register: u32 },
     Compute { instruction: u32 },
@@ -29,15 +29,8 @@ pub enum Step {
     StoreControl { slot: u32, register: u32 },
 }
 
-// Two words read as a step.
-#[derive(Clone, Copy)]
-pub enum StepWords {
-    Formed(Step),
-    Malformed,
-}
-
 // One scalar operation on the sixteen registers.
-#[derive(Clone, Copy)]
+#[derive(Clone, Copy, Debug, PartialEq, Eq)]
 pub enum Instruction {
     Immediate { dst: u32, value: u32 },
     Add { dst: u32, lhs: u32, rhs: u32 },
@@ -50,26 +43,38 @@ pub enum Instruction {
     IntegerSub { dst: u32, lhs: u32, rhs: u32 },
 }
 
-// Two words read as an instruction.
-#[derive(Clone, Copy)]
-pub enum InstructionWords {
-    Formed(Instruction),
-    Malformed,
-}
-
 // Control steps run once per call, sample steps once per sample.
-#[derive(Clone, Copy)]
+#[derive(Clone, Copy, Debug, PartialEq, Eq)]
 pub enum Phase {
     Control,
     Sample,
 }
 
 // The five counts that come with a step table and an instruction table: control steps, sample steps, instructions, control slots, spill slots.
-#[derive(Clone, Copy)]
+#[derive(Clone, Copy, Debug, PartialEq, Eq)]
 pub struct Kernel {
     pub control: u32,
     pub sample: u32,
     pub instructions: u32,
     pub slots: u32,
     pub spills: u32,
+}
+
+// A kernel with its two tables, which the caller lends.
+#[derive(Clone, Copy)]
+pub struct Code<'a> {
+    pub kernel: Kernel,
+    pub steps: &'a [u32],
+    pub instructions: &'a [u32],
+}
+
+// How many there are of what steps index: the block's tables and the kernel's declared counts.
+#[derive(Clone, Copy, Debug, PartialEq, Eq)]
+pub struct Sizes {
+    pub parameters: usize,
+    pub states: usize,
+    pub delays: usize,
+    pub instructions: u32,
+    pub control_slots: u32,
+    pub spill_slots: u32,
 }

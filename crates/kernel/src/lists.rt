@@ -5,51 +5,21 @@ ghost use Rattle.kernel.specs.Steps.{source_in_control, in_control, allowed_in};
 ghost use Rattle.kernel.specs.Instructions.{instruction_at};
 ghost use Rattle.kernel.specs.Lists.{sizes, source_inside, index_inside, is_formed, computes_formed, step_may_run, may_run, phase_may_run, list_may_run, Declared};
 
-use crate::{InstructionWords, Kernel, Phase, Source, Step, StepWords, instructions, steps};
+use crate::{Code, Instruction, Kernel, Phase, Sizes, Source, Step};
 
 fn source_in_control(source: Source) -> bool
     ensures { result ≡ source_in_control source }
 {
-    match source {
-        Source::Audio => false,
-        Source::Network => false,
-        Source::Parameter { index: _ } => true,
-        Source::State { index: _ } => false,
-        Source::Delay { index: _ } => false,
-        Source::Control { slot: _ } => true,
-    }
+    matches!(source, Source::Parameter { .. } | Source::Control { .. })
 }
 
 fn in_control(step: Step) -> bool
     ensures { result ≡ in_control step }
 {
     match step {
-        Step::Load {
-            source,
-            register: _,
-        } => source_in_control(source),
-        Step::Compute { instruction: _ } => true,
-        Step::Spill {
-            slot: _,
-            register: _,
-        } => false,
-        Step::Reload {
-            slot: _,
-            register: _,
-        } => false,
-        Step::StoreState {
-            state: _,
-            register: _,
-        } => false,
-        Step::StoreDelay {
-            delay: _,
-            register: _,
-        } => false,
-        Step::StoreOutput { register: _ } => false,
-        Step::StoreControl {
-            slot: _,
-            register: _,
-        } => true,
+        Step::Load { source, .. } => source_in_control(source),
+        Step::Compute { .. } | Step::StoreControl { .. } => true,
+        _ => false,
     }
 }
 
@@ -58,44 +28,7 @@ fn allowed_in(phase: Phase, step: Step) -> bool
 {
     match phase {
         Phase::Control => in_control(step),
-        Phase::Sample => steps::step_code(step) != 13,
-    }
-}
-
-fn source_inside(
-    kernel: Kernel,
-    parameters: usize,
-    states: usize,
-    delays: usize,
-    source: Source,
-) -> bool
-    ensures { result ≡ source_inside (sizes parameters states delays kernel) source }
-{
-    match source {
-        Source::Audio => true,
-        Source::Network => true,
-        Source::Parameter { index } => (index as usize) < parameters,
-        Source::State { index } => (index as usize) < states,
-        Source::Delay { index } => (index as usize) < delays,
-        Source::Control { slot } => slot < kernel.slots,
-    }
-}
-
-fn index_inside(kernel: Kernel, parameters: usize, states: usize, delays: usize, step: Step) -> bool
-    ensures { result ≡ index_inside (sizes parameters states delays kernel) step }
-{
-    match step {
-        Step::Load {
-            source,
-            register: _,
-        } => source_inside(kernel, parameters, states, delays, source),
-        Step::Compute { instruction } => instruction < kernel.instructions,
-        Step::Spill { slot, register: _ } => slot < kernel.spills,
-        Step::Reload { slot, register: _ } => slot < kernel.spills,
-        Step::StoreState { state, register: _ } => (state as usize) < states,
-        Step::StoreDelay { delay, register: _ } => (delay as usize) < delays,
-        Step::StoreOutput { register: _ } => true,
-        Step::StoreControl { slot, register: _ } => slot < kernel.slots,
+        Phase::Sample => step.code() != 13,
     }
 }
 
@@ -104,11 +37,7 @@ fn instruction_formed(instructions: &[u32], instruction: u32) -> bool
     ensures { result ≡ is_formed (instruction_at instructions.now instruction) }
 {
     let at = 2 * (instruction as usize);
-    let words = instructions::instruction_from_words(instructions[at], instructions[at + 1]);
-    match words {
-        InstructionWords::Formed(_) => true,
-        InstructionWords::Malformed => false,
-    }
+    Instruction::from_words(instructions[at], instructions[at + 1]).is_some()
 }
 
 fn computes_formed(instructions: &[u32], step: Step) -> bool
@@ -116,159 +45,93 @@ fn computes_formed(instructions: &[u32], step: Step) -> bool
     ensures { result ≡ computes_formed instructions.now step }
 {
     match step {
-        Step::Load {
-            source: _,
-            register: _,
-        } => true,
         Step::Compute { instruction } => instruction_formed(instructions, instruction),
-        Step::Spill {
-            slot: _,
-            register: _,
-        } => true,
-        Step::Reload {
-            slot: _,
-            register: _,
-        } => true,
-        Step::StoreState {
-            state: _,
-            register: _,
-        } => true,
-        Step::StoreDelay {
-            delay: _,
-            register: _,
-        } => true,
-        Step::StoreOutput { register: _ } => true,
-        Step::StoreControl {
-            slot: _,
-            register: _,
-        } => true,
+        _ => true,
     }
 }
 
-// A step may run in a phase: the phase allows it, its index is inside, and what it computes is well formed.
-pub fn step_may_run(
-    kernel: Kernel,
-    instructions: &[u32],
-    parameters: usize,
-    states: usize,
-    delays: usize,
-    phase: Phase,
-    step: Step,
-) -> bool
-    requires { 2 * kernel.instructions ≤ length instructions.now }
-    ensures { result ≡ step_may_run (sizes parameters states delays kernel) instructions.now phase step }
-{
-    if !allowed_in(phase, step) {
-        return false;
-    }
-    if !index_inside(kernel, parameters, states, delays, step) {
-        return false;
-    }
-    computes_formed(instructions, step)
-}
-
-// Step i of a table may run in a phase.
-pub fn may_run(
-    kernel: Kernel,
-    steps: &[u32],
-    instructions: &[u32],
-    parameters: usize,
-    states: usize,
-    delays: usize,
-    phase: Phase,
-    i: usize,
-) -> bool
-    requires { (2 * i + 1 < length steps.now) × (2 * kernel.instructions ≤ length instructions.now) }
-    ensures { result ≡ may_run (sizes parameters states delays kernel) steps.now instructions.now phase i }
-{
-    let at = 2 * i;
-    let words = steps::step_from_words(steps[at], steps[at + 1]);
-    let StepWords::Formed(step) = words else {
-        return false;
-    };
-    step_may_run(
-        kernel,
-        instructions,
-        parameters,
-        states,
-        delays,
-        phase,
-        step,
-    )
-}
-
-// Every step of a phase may run: count steps of the table, from first on.
-fn phase_may_run(
-    kernel: Kernel,
-    steps: &[u32],
-    instructions: &[u32],
-    parameters: usize,
-    states: usize,
-    delays: usize,
-    phase: Phase,
-    first: usize,
-    count: usize,
-) -> bool
-    requires { (2 * (first + count) ≤ length steps.now) × (2 * kernel.instructions ≤ length instructions.now) }
-    ensures { result ≡ every (phase_may_run (sizes parameters states delays kernel) steps.now instructions.now phase first) count }
-{
-    let mut i: usize = 0;
-    while i < count {
-        if !may_run(
-            kernel,
-            steps,
-            instructions,
+impl Sizes {
+    // What a kernel's steps index in a block with so many parameters, states and delays.
+    pub fn new(parameters: usize, states: usize, delays: usize, kernel: Kernel) -> Sizes
+        ensures { result ≡ sizes parameters states delays kernel }
+    {
+        Sizes {
             parameters,
             states,
             delays,
-            phase,
-            first + i,
-        ) {
-            return false;
+            instructions: kernel.instructions,
+            control_slots: kernel.slots,
+            spill_slots: kernel.spills,
         }
-        i += 1;
     }
-    true
+
+    fn source_inside(&self, source: Source) -> bool
+        ensures { result ≡ source_inside self.now source }
+    {
+        match source {
+            Source::Audio | Source::Network => true,
+            Source::Parameter { index } => (index as usize) < self.parameters,
+            Source::State { index } => (index as usize) < self.states,
+            Source::Delay { index } => (index as usize) < self.delays,
+            Source::Control { slot } => slot < self.control_slots,
+        }
+    }
+
+    fn index_inside(&self, step: Step) -> bool
+        ensures { result ≡ index_inside self.now step }
+    {
+        match step {
+            Step::Load { source, .. } => self.source_inside(source),
+            Step::Compute { instruction } => instruction < self.instructions,
+            Step::Spill { slot, .. } | Step::Reload { slot, .. } => slot < self.spill_slots,
+            Step::StoreState { state, .. } => (state as usize) < self.states,
+            Step::StoreDelay { delay, .. } => (delay as usize) < self.delays,
+            Step::StoreOutput { .. } => true,
+            Step::StoreControl { slot, .. } => slot < self.control_slots,
+        }
+    }
+
+    // A step may run in a phase: the phase allows it, its index is inside, and what it computes is well formed.
+    pub fn step_may_run(&self, instructions: &[u32], phase: Phase, step: Step) -> bool
+        requires { 2 * self.now.instructions ≤ length instructions.now }
+        ensures { result ≡ step_may_run self.now instructions.now phase step }
+    {
+        allowed_in(phase, step) && self.index_inside(step) && computes_formed(instructions, step)
+    }
 }
 
-// The whole list may run. Where it may not, the step run answers 15.
-pub fn list_may_run(
-    kernel: Kernel,
-    steps: &[u32],
-    instructions: &[u32],
-    parameters: usize,
-    states: usize,
-    delays: usize,
-) -> bool
-    requires { Declared steps.now instructions.now kernel }
-    ensures { result ≡ list_may_run (sizes parameters states delays kernel) steps.now instructions.now kernel }
-{
-    let control = kernel.control as usize;
-    if kernel.sample == 0 {
-        return false;
+impl Code<'_> {
+    // Step i of the table may run in a phase.
+    #[tactic(auto, unfolding(crate::specs::Lists::may_run))]
+    pub fn may_run(&self, sizes: &Sizes, phase: Phase, i: usize) -> bool
+        requires { (2 * i + 1 < length self.now.steps.now) × (2 * sizes.now.instructions ≤ length self.now.instructions.now) }
+        ensures { result ≡ may_run sizes.now self.now.steps.now self.now.instructions.now phase i }
+    {
+        let at = 2 * i;
+        match Step::from_words(self.steps[at], self.steps[at + 1]) {
+            Some(step) => sizes.step_may_run(self.instructions, phase, step),
+            None => false,
+        }
     }
-    if !phase_may_run(
-        kernel,
-        steps,
-        instructions,
-        parameters,
-        states,
-        delays,
-        Phase::Control,
-        0,
-        control,
-    ) {
-        return false;
+
+    // Every step of a phase may run: count steps of the table, from first on.
+    fn phase_may_run(&self, sizes: &Sizes, phase: Phase, first: usize, count: usize) -> bool
+        requires { (2 * (first + count) ≤ length self.now.steps.now) × (2 * sizes.now.instructions ≤ length self.now.instructions.now) }
+        ensures { result ≡ every (phase_may_run sizes.now self.now.steps.now self.now.instructions.now phase first) count }
+    {
+        (0..count).all(|i| self.may_run(sizes, phase, first + i))
     }
-    phase_may_run(
-        kernel,
-        steps,
-        instructions,
-        parameters,
-        states,
-        delays,
-        Phase::Sample,
-        control,
-        kernel.sample as usize,
-    )
+
+    // The whole list may run in a block with so many parameters, states and delays. Where it may not, the step run answers 15.
+    pub fn list_may_run(&self, parameters: usize, states: usize, delays: usize) -> bool
+        requires { Declared self.now.steps.now self.now.instructions.now self.now.kernel }
+        ensures { result ≡ list_may_run (sizes parameters states delays self.now.kernel) self.now.steps.now self.now.instructions.now self.now.kernel }
+    {
+        let sizes = Sizes::new(parameters, states, delays, self.kernel);
+        let control = self.kernel.control as usize;
+        let sample = self.kernel.sample as usize;
+        sample != 0
+            && self.phase_may_run(&sizes, Phase::Control, 0, control)
+            && self.phase_may_run(&sizes, Phase::Sample, control, sample)
+    }
 }

@@ -3,3 +3,4 @@
 pub mod StepLaws
 -- each step's arm
 pub mod StepArms
+pub mod Keeps

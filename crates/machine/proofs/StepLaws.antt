@@ -1,5 +1,5 @@
 -- Laws of steps: what a step that may run needs and leaves, that it counts one, and that the tables keep their lengths. Assumes nothing.
-use Rattle.std.specs.Prelude.{◌≡◌, true, List, length}
+use Rattle.std.specs.Prelude.{◌≡◌, true, List, length, Option, Some, None}
 use Rattle.std.proofs.Math.Path.{refl, sym, ap}
 use Rattle.std.proofs.Common.{◌∙◌, subst, add-zero, add_assoc, add-one, arith, length-set, ltb-true}
 use Prim.Native.Nat.{ℕ, zero, suc, ◌+◌, ◌<◌}
@@ -7,11 +7,11 @@ use Rattle.tables.specs.Tests.{◌&◌, &_both, true_false}
 use Rattle.tables.specs.Loops.{every, every_true}
 use Rattle.kernel.specs.declared.Step.{Step}
 use Rattle.kernel.specs.declared.Step.TheVariants.{Load, Compute, Spill, Reload, StoreState, StoreDelay, StoreOutput, StoreControl}
-use Rattle.kernel.specs.declared.StepWords.{StepWords}
 use Rattle.kernel.specs.declared.Phase.{Phase}
 use Rattle.kernel.specs.declared.Kernel.{Kernel}
 use Rattle.kernel.specs.Steps.{step_at, allowed_in}
-use Rattle.kernel.specs.Lists.{Sizes, sizes, index_inside, computes_formed, step_may_run, words_may_run, may_run, phase_may_run}
+use Rattle.kernel.specs.declared.Sizes.{Sizes}
+use Rattle.kernel.specs.Lists.{sizes, index_inside, computes_formed, step_may_run, words_may_run, may_run, phase_may_run}
 use Rattle.memory.specs.Lines.{store_delay, store_state}
 use Rattle.memory.specs.Fit.{Fit, line_lengths}
 use Rattle.memory.specs.LineLaws.{fit_store, fit_state}
@@ -76,22 +76,22 @@ act_executed p x m (StoreControl slot r) = refl
 
 -- ---- the same of words that may run
 module _ (p : Program) (x : Given) (m : Machine) (n : Sizes) (instructions : List ℕ) (phase : Phase) where
-  pub words_executed : (w : StepWords) → words_may_run n instructions phase w ≡ true → (act_words p x m w).executed ≡ m.executed + 1
+  pub words_executed : (w : Option Step) → words_may_run n instructions phase w ≡ true → (act_words p x m w).executed ≡ m.executed + 1
   unfolding act_words
-  words_executed (StepWords.Formed step) h = ap (λ (k : ℕ). k + 1) (act_executed p x m step)
-  words_executed StepWords.Malformed h = true_false (sym h)
+  words_executed (Some step) h = ap (λ (k : ℕ). k + 1) (act_executed p x m step)
+  words_executed None h = true_false (sym h)
 
-  pub words_kept : (w : StepWords) → lengths_of (act_words p x m w) ≡ lengths_of m
+  pub words_kept : (w : Option Step) → lengths_of (act_words p x m w) ≡ lengths_of m
   unfolding act_words
-  words_kept (StepWords.Formed step) = act_kept p x m step
-  words_kept StepWords.Malformed = refl
+  words_kept (Some step) = act_kept p x m step
+  words_kept None = refl
 
-  pub words_fit : (w : StepWords) → n.delays ≡ length m.memories.cursors → words_may_run n instructions phase w ≡ true
+  pub words_fit : (w : Option Step) → n.delays ≡ length m.memories.cursors → words_may_run n instructions phase w ≡ true
       → Fit p.lengths m.memories.area m.memories.cursors
       → Fit p.lengths (act_words p x m w).memories.area (act_words p x m w).memories.cursors
   unfolding act_words
-  words_fit (StepWords.Formed step) d h f = act_fits p x m n step d (may_inside n instructions phase step h) f
-  words_fit StepWords.Malformed d h f = f
+  words_fit (Some step) d h f = act_fits p x m n step d (may_inside n instructions phase step h) f
+  words_fit None d h f = f
 
 -- ---- the steps of a phase
 pub steps_next : (p : Program) (steps : List ℕ) (x : Given) (m : Machine) (first i : ℕ)

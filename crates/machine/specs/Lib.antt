@@ -4,5 +4,7 @@ pub mod Machine
 pub mod Registers
 -- what the functions of a phase require
 pub mod Ready
+-- the structs that a run hands down
+pub mod Tables
 -- a run of steps under way
 pub mod StepLaws

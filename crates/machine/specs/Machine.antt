@@ -1,13 +1,11 @@
 -- The machine that steps run on: host.rs, `run_lowered` and `execute`. Definitions alone.
-use Rattle.std.specs.Prelude.{List, ℕ, zero, suc, ◌+◌, get_or, set}
+use Rattle.std.specs.Prelude.{List, ℕ, zero, suc, ◌+◌, get_or, set, Option, Some, None}
 use Rattle.words.specs.Operations.{added, subtracted, multiplied, lesser, greater, negated, absolute, wrapping_difference}
 use Rattle.kernel.specs.declared.Source.{Source}
 use Rattle.kernel.specs.declared.Step.{Step}
 use Rattle.kernel.specs.declared.Step.TheVariants.{Load, Compute, Spill, Reload, StoreState, StoreDelay, StoreOutput, StoreControl}
-use Rattle.kernel.specs.declared.StepWords.{StepWords}
 use Rattle.kernel.specs.declared.Instruction.{Instruction}
 use Rattle.kernel.specs.declared.Instruction.TheVariants.{Immediate, Add, Sub, Mul, Min, Max, Neg, Abs, IntegerSub}
-use Rattle.kernel.specs.declared.InstructionWords.{InstructionWords}
 use Rattle.kernel.specs.Steps.{step_at}
 use Rattle.kernel.specs.Instructions.{destination, instruction_at}
 use Rattle.memory.specs.Lines.{Memories, read_delay, store_delay, store_state}
@@ -53,9 +51,9 @@ unfoldable pub execute : List ℕ → Instruction → List ℕ
 execute registers i = set registers (destination i) (result_of registers i)
 
 -- words that are no instruction never run (answer 15)
-abbrev pub execute_words : List ℕ → InstructionWords → List ℕ
-execute_words registers (InstructionWords.Formed i) = execute registers i
-execute_words registers InstructionWords.Malformed = registers
+abbrev pub execute_words : List ℕ → Option Instruction → List ℕ
+execute_words registers (Some i) = execute registers i
+execute_words registers None = registers
 
 -- ---- host.rs, the arms of `run_lowered`
 abbrev pub loaded : List ℕ → Given → List ℕ → Memories → Source → ℕ
@@ -100,9 +98,9 @@ abbrev pub counted : Machine → Machine
 counted m = machine m.registers m.control m.spills m.memories m.output (m.executed + 1)
 
 -- words that are no step never run (answer 15)
-unfoldable pub act_words : Program → Given → Machine → StepWords → Machine
-act_words p x m (StepWords.Formed step) = counted (act p x m step)
-act_words p x m StepWords.Malformed = m
+unfoldable pub act_words : Program → Given → Machine → Option Step → Machine
+act_words p x m (Some step) = counted (act p x m step)
+act_words p x m None = m
 
 -- the n steps of a table from step `from` on
 unfoldable pub steps_to : Program → List ℕ → Given → Machine → ℕ → ℕ → Machine

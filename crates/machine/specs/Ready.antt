@@ -1,9 +1,9 @@
 -- What the functions of a phase require of the words that they are lent, and what the machine's tables keep. Definitions alone.
-use Rattle.std.specs.Prelude.{◌≡◌, true, List, ℕ, ◌+◌, ◌*◌, ◌≤◌, length, set}
+use Rattle.std.specs.Prelude.{◌≡◌, true, List, ℕ, ◌+◌, ◌*◌, ◌≤◌, length, set, Option}
 use Rattle.kernel.specs.declared.Kernel.{Kernel}
 use Rattle.kernel.specs.declared.Phase.{Phase}
+use Rattle.kernel.specs.declared.Step.{Step}
 use Rattle.kernel.specs.declared.Phase.TheVariants.{Control, Sample}
-use Rattle.kernel.specs.declared.StepWords.{StepWords}
 use Rattle.kernel.specs.Lists.{sizes, words_may_run, phase_may_run}
 use Rattle.tables.specs.Loops.{every}
 use Rattle.memory.specs.Fit.{Fit, line_lengths, line_bases}
@@ -26,7 +26,7 @@ pub record Ready (k : Kernel) (instructions delays bases control spills area cur
   pub lines : Lines delays bases area cursors
 
 -- words that may run as a step of a phase, where so many parameters, states and delays are lent
-pub record MayRun (p s d : ℕ) (k : Kernel) (instructions : List ℕ) (phase : Phase) (w : StepWords) : Type 0 where
+pub record MayRun (p s d : ℕ) (k : Kernel) (instructions : List ℕ) (phase : Phase) (w : Option Step) : Type 0 where
   pub may : words_may_run (sizes p s d k) instructions phase w ≡ true
 
 -- the steps of a phase may: count steps of a table, from first on

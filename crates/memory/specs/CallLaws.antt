@@ -1,15 +1,14 @@
 -- The ways out of set and reset, each from the tests that lead to it. Assumes nothing.
-use Rattle.std.specs.Prelude.{◌≡◌, true, false, List, [], ℕ, ◌≤◌, ◌<◌, length, set}
+use Rattle.std.specs.Prelude.{◌≡◌, true, false, List, [], ℕ, ◌≤◌, ◌<◌, length, set, Result, Ok, Err, IsErrAnd}
 use Rattle.std.proofs.Common.{sym, ap, ◌∙◌, eq-eqb, ne_eqb, le-leb}
 use Rattle.std.proofs.Math.Bool.{not}
 use Rattle.std.proofs.lemmas.Bool.{lt-leb}
+use Rattle.std.proofs.lemmas.Result.{err_from_is_err_and}
 use Rattle.words.specs.Operations.{in_range}
 use Rattle.tables.specs.Zeros.{zeros}
 use Rattle.answers.specs.declared.Refusal.{Refusal}
-use Rattle.answers.specs.declared.Verdict.{Verdict}
-use Rattle.answers.specs.declared.Verdict.TheVariants.{Refused}
 use Rattle.answers.specs.Numbers.{Answer, accepted, refused, answer_of}
-use Rattle.answers.specs.OrderLaws.{then_stop, then_pass, refuse_stop, refuse_pass, refuse_on, refuse_off}
+use Rattle.answers.specs.OrderLaws.{hand_on, then_pass, refuse_stop, refuse_pass, refuse_on, refuse_off}
 use Rattle.block.specs.Block.{Block, parameter_count, minimum, maximum, initial}
 use Rattle.block.specs.Validation.{validation}
 use Rattle.tables.specs.Lists.{list_of}
@@ -18,8 +17,8 @@ use Rattle.memory.specs.Sizes.{memories_fit}
 use Rattle.memory.specs.Calls.{set_outcome, set_answer, set_after, set_call, reset_outcome, reset_answer, start_memories, reset_after, reset_call}
 use Rattle.memory.specs.SizeLaws.{held}
 
--- a verdict gives an answer, and is known: the answer is known
-pub told : {v w : Verdict} {a : Answer Unit} → answer_of v ≡ a → v ≡ w → a ≡ answer_of w
+-- what a call returns is its answer
+pub told : {v w : Result Unit Refusal} {a : Answer Unit} → answer_of v ≡ a → v ≡ w → a ≡ answer_of w
 told e k = sym e ∙ ap answer_of k
 
 module _ (b : Block) (values : List ℕ) (index value : ℕ) where
@@ -28,10 +27,12 @@ module _ (b : Block) (values : List ℕ) (index value : ℕ) where
   unfolding set_call set_after
   set_refused e = rw e
 
-  pub set_invalid : {verdict : Verdict} {r : Refusal} → answer_of verdict ≡ validation b → verdict ≡ Refused r
-      → set_outcome (answer_of verdict) values ≡ set_call b values index value
+  pub set_invalid : {v : Result Unit Refusal} (r : Result Unit Refusal) {e : Refusal} → answer_of v ≡ validation b → v ≡ Err e → IsErrAnd r (λ y. y ≡ e)
+      → set_outcome (answer_of r) values ≡ set_call b values index value
   unfolding set_answer
-  set_invalid e k = rw k (set_refused (then_stop _ (told e k)))
+  set_invalid r f g h =
+      let q = err_from_is_err_and r h in
+      rw q.1 (set_refused (sym (hand_on r _ f g h) ∙ ap answer_of q.1))
 
   pub set_sizes : validation b ≡ accepted tt → (length values ≡ parameter_count b → ⊥) → set_outcome (refused 16 []) values ≡ set_call b values index value
   unfolding set_answer
@@ -62,9 +63,12 @@ module _ (b : Block) (m : Memories) where
   unfolding reset_call reset_after
   reset_refused e = rw e
 
-  pub reset_invalid : {verdict : Verdict} {r : Refusal} → answer_of verdict ≡ validation b → verdict ≡ Refused r → reset_outcome (answer_of verdict) m ≡ reset_call b m
+  pub reset_invalid : {v : Result Unit Refusal} (r : Result Unit Refusal) {e : Refusal} → answer_of v ≡ validation b → v ≡ Err e → IsErrAnd r (λ y. y ≡ e)
+      → reset_outcome (answer_of r) m ≡ reset_call b m
   unfolding reset_answer
-  reset_invalid e k = rw k (reset_refused (then_stop _ (told e k)))
+  reset_invalid r f g h =
+      let q = err_from_is_err_and r h in
+      rw q.1 (reset_refused (sym (hand_on r _ f g h) ∙ ap answer_of q.1))
 
   pub reset_sizes : validation b ≡ accepted tt → memories_fit b m ≡ false → reset_outcome (refused 16 []) m ≡ reset_call b m
   unfolding reset_answer

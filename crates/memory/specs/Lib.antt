@@ -7,3 +7,5 @@ pub mod Fit
 pub mod LineLaws
 pub mod SizeLaws
 pub mod CallLaws
+pub mod Lent
+pub mod LentLaws

@@ -148,14 +148,22 @@ reached {delays} {bases} {area} {cursors} {i} r =
     record { base = b; cells = d; entry = omega arith; line = omega arith; cell = omega arith; small = f.small }
 
 -- the cell at the cursor, in the words of the tables
-pub cell_read : {delays bases area cursors : List ℕ} {i base cursor : ℕ} → Reach delays bases area cursors i → base ≡ get_or bases i 0 → cursor ≡ get_or cursors i 0
-    → (states : List ℕ) → get_or area (base + cursor) 0 ≡ read_delay (line_lengths delays) (memories states area cursors) i
+pub cell_read : {delays bases area cursors : List ℕ} {i : ℕ} → Reach delays bases area cursors i → (states : List ℕ)
+    → get_or area (get_or bases i 0 + get_or cursors i 0) 0 ≡ read_delay (line_lengths delays) (memories states area cursors) i
 unfolding read_delay
-cell_read r eb ec states = let q = reached r in rw (eb, ec, q.base)
+cell_read r states = let q = reached r in rw q.base
 
--- ---- the line that is lent on: the part of the area from base to base + size
-module _ {delays bases area cursors : List ℕ} {i base size : ℕ} (r : Reach delays bases area cursors i)
-    (eb : base ≡ get_or bases i 0) (es : size ≡ delay_length delays i) where
+-- ---- the line that is lent on: the part of the area from its base to base + its length
+module _ {delays bases area cursors : List ℕ} {i : ℕ} (r : Reach delays bases area cursors i) where
+  abbrev pub base : ℕ
+  base = get_or bases i 0
+
+  abbrev pub size : ℕ
+  size = delay_length delays i
+
+  abbrev pub cursor : ℕ
+  cursor = get_or cursors i 0
+
   -- it is as long as the line
   pub part_length : length (mid_of base (base + size - base) area) ≡ size
   part_length =
@@ -164,7 +172,7 @@ module _ {delays bases area cursors : List ℕ} {i base size : ℕ} (r : Reach d
       rw e (length-take-le size (drop base area) (simp length-drop (omega arith)))
 
   -- what the store in it requires
-  pub part_room : (get_or cursors i 0 < length (mid_of base (base + size - base) area)) × (length (mid_of base (base + size - base) area) ≤ most_delay_samples)
+  pub part_room : (cursor < length (mid_of base (base + size - base) area)) × (length (mid_of base (base + size - base) area) ≤ most_delay_samples)
   part_room =
       let q = reached r in let c = cursor_in r.fit i r.inside in
       let e = part_length in
@@ -172,13 +180,12 @@ module _ {delays bases area cursors : List ℕ} {i base size : ℕ} (r : Reach d
 
   -- the store in it is the line's store
   pub part_stored : {line : List ℕ} {next : ℕ} (states : List ℕ) (v : ℕ)
-      → stored line next ≡ stored (set (mid_of base (base + size - base) area) (get_or cursors i 0) v) ((get_or cursors i 0 + 1) % length (mid_of base (base + size - base) area))
+      → stored line next ≡ stored (set (mid_of base (base + size - base) area) cursor v) ((cursor + 1) % length (mid_of base (base + size - base) area))
       → memories states (put_mid base (base + size - base) area line) (set cursors i next) ≡ store_delay (line_lengths delays) (memories states area cursors) i v
   unfolding store_delay
   part_stored {line} {next} states v e =
       let q = reached r in let b = cursor_in r.fit i r.inside in
-      let c = get_or cursors i 0 in
       let k = base + size - base in
-      let e₁ : put_mid base k area line ≡ set area (base + c) v = put_set base k c v area line (omega arith) (omega arith) (ap (λ (x : Stored). x.line) e) in
-      let e₂ : next ≡ (c + 1) % size = ap (λ (x : Stored). x.next) e ∙ ap (λ (n : ℕ). (c + 1) % n) part_length in
-      rw (e₁, e₂, es, eb, q.cells, q.base)
+      let e₁ : put_mid base k area line ≡ set area (base + cursor) v = put_set base k cursor v area line (omega arith) (omega arith) (ap (λ (x : Stored). x.line) e) in
+      let e₂ : next ≡ (cursor + 1) % size = ap (λ (x : Stored). x.next) e ∙ ap (λ (n : ℕ). (cursor + 1) % n) part_length in
+      rw (e₁, e₂, q.cells, q.base)

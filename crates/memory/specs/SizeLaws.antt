@@ -1,7 +1,7 @@
 -- What a valid block and sizes that fit give: each test of answer 16 as a fact with a name, and that the delay lines fit. Assumes nothing.
-use Rattle.std.specs.Prelude.{◌≡◌, refl, Bool, true, false, ◌||◌, List, ℕ, zero, suc, ◌≤◌, ◌<◌, ◌+◌, length, get_or, eqb}
-use Rattle.std.proofs.Common.{sym, ◌∙◌, arith, ltb-true, eqb-true, ne_eqb}
-use Rattle.tables.specs.Loops.{sum, sum_next, sum_le, every_true}
+use Rattle.std.specs.Prelude.{◌≡◌, refl, Bool, true, false, ◌||◌, List, ℕ, zero, suc, ◌≤◌, ◌<◌, ◌+◌, ◌*◌, length, get_or, eqb, ltb, IsTrue, ◌↔◌}
+use Rattle.std.proofs.Common.{sym, ◌∙◌, arith, lt-ltb, ltb-true, eqb-true, ne_eqb}
+use Rattle.tables.specs.Loops.{sum, sum_next, sum_le, every, every_true, every_all}
 use Rattle.tables.specs.Tests.{&_both, true_false}
 use Rattle.block.specs.Block.{Block, parameter_count, state_count, delay_count, delay_length}
 use Rattle.block.specs.Limits.{most_delay_samples}
@@ -11,6 +11,24 @@ use Rattle.memory.specs.Lines.{Memories, line_base}
 use Rattle.memory.specs.Sizes.{values_fit, area_length, memories_fit, cursor_below, cursors_below, signals_fit, run_fits}
 use Rattle.memory.specs.Fit.{line_lengths, Small, Fit}
 use Rattle.memory.specs.LineLaws.{lengths_count, length_at, base_sum}
+
+-- a test that passes exactly where each index does is `every`
+pub every_is : (p : ℕ → Bool) (n : ℕ) {b : Bool} → (IsTrue b ↔ ((i : ℕ) → i < n → p i ≡ true)) → b ≡ every p n
+every_is p n {b} h = go b (every p n) refl refl
+  where
+    go : (a d : Bool) → b ≡ a → every p n ≡ d → b ≡ every p n
+    go true d e f = e ∙ sym (every_all p n (h.0 e))
+    go false true e f = true_false (sym (h.1 (every_true p n f)) ∙ e)
+    go false false e f = e ∙ sym f
+
+-- a test that passes exactly where each cursor is below its line's length
+pub all_below : (b : Block) (cursors : List ℕ) {t : Bool} → length cursors ≡ delay_count b
+    → (IsTrue t ↔ ((i : ℕ) → i < length cursors → get_or cursors i 0 < get_or b.delays (2 * i) 0)) → t ≡ cursors_below b cursors
+unfolding cursors_below cursor_below
+all_below b cursors e h =
+    let k = rw e at h in
+    every_is (λ i. ltb (get_or cursors i 0) (delay_length b.delays i)) (delay_count b)
+    (λ t i q. lt-ltb _ _ (k.0 t i q), λ f. k.1 (λ i q. ltb-true _ _ (f i q)))
 
 -- a running total that is over a length already: the whole sum is another
 pub area_stop : (f : ℕ → ℕ) (i n total size : ℕ) → i < n → total ≡ sum f i → size < total + f i → eqb size (sum f n) ≡ false

@@ -2,50 +2,40 @@
 // Here: set and reset.
 #![tactic(auto)]
 
-use answers::{Refusal, Verdict};
-use block::Header;
-
 pub mod lines;
 pub mod signals;
 pub mod sizes;
 
 ghost use Rattle.std.specs.Prelude.{◌≡◌, ◌/◌, length};
 ghost use Rattle.answers.specs.Numbers.{answer_of};
-ghost use Rattle.block.specs.Block.{block, initial};
+ghost use Rattle.block.specs.Block.{the_block, initial};
 ghost use Rattle.tables.specs.Lists.{list_of};
-ghost use Rattle.memory.specs.Lines.{memories};
 ghost use Rattle.memory.specs.Calls.{set_outcome, set_call, reset_outcome, reset_call};
+ghost use Rattle.memory.specs.Lent.{the_memories, KeepsTables};
+
+use answers::Refusal;
+use block::Block;
+use lines::Memories;
 
 // One parameter's value, where the block is valid and the value in the parameter's range.
-pub fn set(
-    header: Header,
-    parameters: &[u32],
-    states: &[u32],
-    delays: &[u32],
-    nodes: &[u32],
-    index: u32,
-    value: u32,
-    settings: &mut [u32],
-) -> Verdict
-    ensures { set_outcome (answer_of result) settings.new ≡ set_call (block header parameters.now states.now delays.now nodes.now) settings.old index value }
+pub fn set(block: &Block<'_>, index: u32, value: u32, settings: &mut [u32]) -> Result<(), Refusal>
+    ensures { set_outcome (answer_of result) settings.new ≡ set_call (the_block block.now) settings.old index value }
 {
-    let verdict = block::validate(header, parameters, states, delays, nodes);
-    let Verdict::Valid = verdict else {
-        return verdict;
-    };
+    block.validate()?;
+    let parameters = block.parameters;
     let count = parameters.len() / 3;
     if settings.len() != count {
-        return Verdict::Refused(Refusal::SizesDiffer);
+        return Err(Refusal::SizesDiffer);
     }
     let i = index as usize;
     if count <= i {
-        return Verdict::Refused(Refusal::UnknownParameter);
+        return Err(Refusal::UnknownParameter);
     }
     if !words::in_range(parameters[3 * i], parameters[3 * i + 1], value) {
-        return Verdict::Refused(Refusal::ValueOutOfRange);
+        return Err(Refusal::ValueOutOfRange);
     }
     settings[i] = value;
-    Verdict::Valid
+    Ok(())
 }
 
 // Every state's initial word.
@@ -53,36 +43,22 @@ fn write_initial(states: &[u32], held: &mut [u32])
     requires { length held.old ≡ length states.now / 2 }
     ensures { held.new ≡ list_of (initial states.now) (length held.old) }
 {
-    let count = held.len();
-    let mut i: usize = 0;
-    while i < count {
+    for i in 0..held.len() {
         held[i] = states[2 * i];
-        i += 1;
     }
 }
 
 // The memories that a block starts with: initial states, zero cells, zero cursors.
-pub fn reset(
-    header: Header,
-    parameters: &[u32],
-    states: &[u32],
-    delays: &[u32],
-    nodes: &[u32],
-    held: &mut [u32],
-    area: &mut [u32],
-    cursors: &mut [u32],
-) -> Verdict
-    ensures { reset_outcome (answer_of result) (memories held.new area.new cursors.new) ≡ reset_call (block header parameters.now states.now delays.now nodes.now) (memories held.old area.old cursors.old) }
+pub fn reset(block: &Block<'_>, memories: &mut Memories<'_>) -> Result<(), Refusal>
+    ensures outcome { reset_outcome (answer_of result) (the_memories memories.new) ≡ reset_call (the_block block.now) (the_memories memories.old) }
+    ensures same_tables { KeepsTables memories.old memories.new }
 {
-    let verdict = block::validate(header, parameters, states, delays, nodes);
-    let Verdict::Valid = verdict else {
-        return verdict;
-    };
-    if !sizes::memories_fit(states, delays, held, area, cursors) {
-        return Verdict::Refused(Refusal::SizesDiffer);
+    block.validate()?;
+    if !sizes::memories_fit(block, memories) {
+        return Err(Refusal::SizesDiffer);
     }
-    write_initial(states, held);
-    tables::zero(area);
-    tables::zero(cursors);
-    Verdict::Valid
+    write_initial(block.states, memories.held);
+    memories.area.fill(0);
+    memories.cursors.fill(0);
+    Ok(())
 }

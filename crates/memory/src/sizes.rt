@@ -2,47 +2,35 @@
 ghost use Rattle.std.specs.Prelude.{◌≡◌, List, ℕ, ◌/◌, length, eqb};
 ghost use Rattle.tables.specs.Loops.{sum};
 ghost use Rattle.block.specs.declared.Header.{Header};
-ghost use Rattle.block.specs.Block.{block, delay_length};
-ghost use Rattle.memory.specs.Lines.{memories};
+ghost use Rattle.block.specs.Block.{block, the_block, delay_length};
 ghost use Rattle.memory.specs.Sizes.{memories_fit, cursors_below, signals_fit, run_fits};
+ghost use Rattle.memory.specs.Lent.{the_memories};
 
-use crate::lines::place;
-use block::Header;
+use crate::lines::Memories;
+use crate::signals::Signals;
+use block::{Block, Header};
 
 // The area is as long as the lines together. It stops where they are already longer, so that no sum wraps.
 fn area_fits(delays: &[u32], area: &[u32]) -> bool
     ensures { result ≡ eqb (length area.now) (sum (delay_length delays.now) (length delays.now / 2)) }
 {
-    let count = delays.len() / 2;
     let mut total: usize = 0;
-    let mut i: usize = 0;
-    while i < count {
-        total += place(delays[2 * i]);
+    for i in 0..delays.len() / 2 {
+        total += delays[2 * i] as usize;
         if area.len() < total {
             return false;
         }
-        i += 1;
     }
     area.len() == total
 }
 
 // States, cursors and area have the block's size.
-pub fn memories_fit(
-    states: &[u32],
-    delays: &[u32],
-    held: &[u32],
-    area: &[u32],
-    cursors: &[u32],
-) -> bool
-    ensures { (header : Header) (parameters nodes : List ℕ) → result ≡ memories_fit (block header parameters states.now delays.now nodes) (memories held.now area.now cursors.now) }
+pub fn memories_fit(block: &Block<'_>, memories: &Memories<'_>) -> bool
+    ensures { result ≡ memories_fit (the_block block.now) (the_memories memories.now) }
 {
-    if held.len() != states.len() / 2 {
-        return false;
-    }
-    if cursors.len() != delays.len() / 2 {
-        return false;
-    }
-    area_fits(delays, area)
+    memories.held.len() == block.states.len() / 2
+        && memories.cursors.len() == block.delays.len() / 2
+        && area_fits(block.delays, memories.area)
 }
 
 // Every cursor is below its delay's length.
@@ -50,54 +38,29 @@ fn cursors_below(delays: &[u32], cursors: &[u32]) -> bool
     requires { length cursors.now ≡ length delays.now / 2 }
     ensures { (header : Header) (parameters states nodes : List ℕ) → result ≡ cursors_below (block header parameters states delays.now nodes) cursors.now }
 {
-    let count = delays.len() / 2;
-    let mut i: usize = 0;
-    while i < count {
-        if delays[2 * i] <= cursors[i] {
-            return false;
-        }
-        i += 1;
-    }
-    true
+    (0..cursors.len()).all(|i| cursors[i] < delays[2 * i])
 }
 
 // Input, output and, with the flag set, network words have one length.
-fn signals_fit(header: Header, input: &[u32], output: &[u32], network: &[u32]) -> bool
-    ensures { (parameters states delays nodes : List ℕ) → result ≡ signals_fit (block header parameters states delays nodes) input.now output.now network.now }
+fn signals_fit(header: Header, signals: &Signals<'_>, output: &[u32]) -> bool
+    ensures { (parameters states delays nodes : List ℕ) → result ≡ signals_fit (block header parameters states delays nodes) signals.now.input.now output.now signals.now.network.now }
 {
-    if output.len() != input.len() {
-        return false;
-    }
-    if header.network == 0 {
-        return true;
-    }
-    network.len() == input.len()
+    let input = signals.input;
+    let network = signals.network;
+    output.len() == input.len() && (header.network == 0 || network.len() == input.len())
 }
 
 // What both runs need of the tables they are lent; 16 is given where this is false.
 pub fn run_fits(
-    header: Header,
-    parameters: &[u32],
-    states: &[u32],
-    delays: &[u32],
-    settings: &[u32],
-    held: &[u32],
-    area: &[u32],
-    cursors: &[u32],
-    input: &[u32],
+    block: &Block<'_>,
+    signals: &Signals<'_>,
+    memories: &Memories<'_>,
     output: &[u32],
-    network: &[u32],
 ) -> bool
-    ensures { (nodes : List ℕ) → result ≡ run_fits (block header parameters.now states.now delays.now nodes) settings.now (memories held.now area.now cursors.now) input.now output.now network.now }
+    ensures { result ≡ run_fits (the_block block.now) signals.now.settings.now (the_memories memories.now) signals.now.input.now output.now signals.now.network.now }
 {
-    if !signals_fit(header, input, output, network) {
-        return false;
-    }
-    if settings.len() != parameters.len() / 3 {
-        return false;
-    }
-    if !memories_fit(states, delays, held, area, cursors) {
-        return false;
-    }
-    cursors_below(delays, cursors)
+    signals_fit(block.header, signals, output)
+        && signals.settings.len() == block.parameters.len() / 3
+        && memories_fit(block, memories)
+        && cursors_below(block.delays, memories.cursors)
 }

@@ -7,6 +7,7 @@ use mathlib.Core.List.{List, [], ◌∷◌, ◌++◌, map}
 use Prim.Native.Nat.{ℕ, zero, suc, ◌*◌, ◌≤◌, ◌<◌}
 use Rattle.std.proofs.Math.ListN.{length, length-replicate}
 use Rattle.tables.specs.Tests.{or_pass}
+use Rattle.plan.specs.declared.Flow as Lending
 use Rattle.plan.specs.declared.Sizes.{Sizes}
 use Rattle.plan.specs.declared.Hoisted.{Hoisted}
 use Rattle.plan.specs.Lists.{member, count}
@@ -29,6 +30,10 @@ use Rattle.plan.specs.ControlLaws.{homes_to, homes_to_length}
 abbrev pub flow_in : Sizes → List ℕ → List ℕ → List ℕ → ℕ → Flow
 flow_in sizes nodes updates stores output =
     flow_of (record { count = sizes.nodes; nodes = nodes; output = output; state_updates = updates; delay_updates = stores; delay_lengths = [] })
+
+-- .. of a flow that is lent as a struct
+abbrev pub the_flow : Lending.Flow → Flow
+the_flow f = flow_in f.sizes f.nodes.now f.updates.now f.stores.now f.output
 
 -- no node is marked as needed yet
 abbrev pub Cleared : Sizes → List ℕ → Type 0

@@ -9,7 +9,7 @@ use Rattle.block.specs.declared.Kind.{Kind}
 use Rattle.block.specs.declared.Kind.TheVariants.{Source, Constant, Parameter, State, Delay, Binary, Divide, Unary, Recip, Tanh, Sigmoid, Unknown}
 use Rattle.block.specs.Block.{code, first, second}
 use Rattle.block.specs.Kinds.{kind_of}
-use Rattle.block.specs.Validation.{Counts}
+use Rattle.block.specs.declared.Counts.{Counts}
 use Rattle.expand.specs.Graph.{Graph}
 use Rattle.expand.specs.Good.{GoodAs, GoodNode}
 use Rattle.expand.specs.GraphLaws.{GoodGraph}

@@ -1,8 +1,9 @@
 -- The regions of the work table that the plan fills, what the plan's functions are lent, and a task as a word. Definitions alone.
 use Rattle.std.specs.Prelude.{◌≡◌, cond, List, ℕ, ◌+◌, ◌*◌, ◌≤◌, ◌<◌, length, get_or, eqb}
 use Rattle.block.specs.Block.{code, first, second}
-use Rattle.block.specs.Validation.{Counts}
+use Rattle.block.specs.declared.Counts.{Counts}
 use Rattle.expand.specs.Good.{GoodNode}
+use Rattle.plan.specs.declared.Flow as Lending
 use Rattle.plan.specs.declared.Sizes.{Sizes}
 use Rattle.plan.specs.Schedule.{Task, compute_task, keep_task, store_task}
 
@@ -66,6 +67,10 @@ task_word sizes (store_task code index value) = 2 * sizes.nodes + store_word siz
 
 -- ---- what is lent
 
+-- so few that every region begins at a word that can be counted
+abbrev pub Few : Sizes → Type 0
+Few sizes = (sizes.nodes ≤ 65536) × (sizes.states ≤ 4096) × (sizes.delays ≤ 4096)
+
 -- a block's counts, where the parameters are as many as document 01 allows
 abbrev pub counts_in : Sizes → Counts
 counts_in sizes = record { parameters = 256; states = sizes.states; delays = sizes.delays }
@@ -78,6 +83,10 @@ pub record Lent (sizes : Sizes) (nodes : List ℕ) (words : ℕ) : Type 0 where
   pub states : sizes.states ≤ 4096
   pub delays : sizes.delays ≤ 4096
   pub room : 18 * sizes.nodes + 5 * sizes.states + 5 * sizes.delays + 262 ≤ words
+
+-- .. of a flow that is lent as a struct, and the work table's words
+abbrev pub IsLent : Lending.Flow → List ℕ → Type 0
+IsLent f work = Lent f.sizes f.nodes.now (length work)
 
 -- of what is lent, the sizes and the table alone
 pub record Room (sizes : Sizes) (words : ℕ) : Type 0 where

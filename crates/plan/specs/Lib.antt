@@ -25,6 +25,7 @@ pub mod HoistLaws
 pub mod RootLaws
 pub mod ControlLaws
 pub mod SourceLaws
+pub mod Source
 pub mod SampleLaws
 pub mod Chains
 pub mod LastLaws

@@ -1,137 +1,115 @@
 // Where a node's value comes from in a phase, and repeated loads (codegen.rs, `control_sources`, `sample_sources` and `canonical`).
-ghost use Rattle.std.specs.Prelude.{◌≡◌, ◌+◌, ◌*◌, ◌≤◌, ◌<◌, length, get_or};
+ghost use Rattle.std.specs.Prelude.{◌≡◌, ◌+◌, ◌≤◌, ◌<◌, get_or};
 ghost use Rattle.tables.specs.Loops.{turns};
 ghost use Rattle.block.specs.Block.{code};
-ghost use Rattle.plan.specs.Layout.{Lent};
-ghost use Rattle.plan.specs.SourceLaws.{control_code, load_code, source_code, place_word, fresh_word, canonical_node};
+ghost use Rattle.plan.specs.Layout.{IsLent, slots_at};
+ghost use Rattle.plan.specs.SourceLaws.{control_code, load_code, source_code, place_word, canonical_node};
+ghost use Rattle.plan.specs.Source.{source_number, option_number};
 
-use crate::Sizes;
+use crate::Flow;
 
-// The control phase loads constants and parameters alone.
-fn control_code(code: u32) -> u32
-    ensures { result ≡ control_code code }
+// Where a value that is not computed comes from: a load, in the order of document 01's load codes, or an immediate.
+#[derive(Clone, Copy, Debug, PartialEq, Eq)]
+pub enum Source {
+    Audio,
+    Network,
+    Parameter,
+    State,
+    Delay,
+    Control,
+    Immediate,
+}
+
+// The control phase loads constants and parameters alone. By the node's code, not its Kind, in which the input (0) and the network (17) are one.
+#[tactic(auto, unfolding(crate::specs::SourceLaws::control_code))]
+fn control_source(code: u32) -> Option<Source>
+    ensures { source_number result ≡ control_code code }
 {
-    if code == 1 {
-        return 7;
+    match code {
+        1 => Some(Source::Immediate),
+        2 => Some(Source::Parameter),
+        _ => None,
     }
-    if code == 2 {
-        return 3;
-    }
-    0
 }
 
 // What the sample phase loads of nodes that have no control slot.
-fn load_code(code: u32) -> u32
-    ensures { result ≡ load_code code }
+#[tactic(auto, unfolding(crate::specs::SourceLaws::load_code))]
+fn sample_source(code: u32) -> Option<Source>
+    ensures { source_number result ≡ load_code code }
 {
-    if code == 0 {
-        return 1;
+    match code {
+        0 => Some(Source::Audio),
+        1 => Some(Source::Immediate),
+        2 => Some(Source::Parameter),
+        3 => Some(Source::State),
+        4 => Some(Source::Delay),
+        17 => Some(Source::Network),
+        _ => None,
     }
-    if code == 1 {
-        return 7;
-    }
-    if code == 2 {
-        return 3;
-    }
-    if code == 3 {
-        return 4;
-    }
-    if code == 4 {
-        return 5;
-    }
-    if code == 17 {
-        return 2;
-    }
-    0
 }
 
-// A node's source in a phase: 0 it is computed, 1 to 6 the code of the load, 7 an immediate.
-pub fn source_code(nodes: &[u32], work: &[u32], sizes: Sizes, control: bool, i: usize) -> u32
-    requires { Lent sizes nodes.now (length work.now) × (i < sizes.nodes) }
-    ensures { result ≡ source_code control (get_or work.now (2 * sizes.nodes + i) 0) (code nodes.now i) }
+// A node's source in a phase, if it is not computed.
+#[tactic(auto, unfolding(crate::specs::SourceLaws::source_code))]
+pub fn source_of(flow: &Flow<'_>, work: &[u32], control: bool, i: usize) -> Option<Source>
+    requires { IsLent flow.now work.now × (i < flow.now.sizes.nodes) }
+    ensures { source_number result ≡ source_code control (get_or work.now (slots_at flow.now.sizes + i) 0) (code flow.now.nodes.now i) }
 {
-    let at = 3 * i;
-    let word = nodes[at];
+    let code = flow.code(i);
     if control {
-        return control_code(word);
+        control_source(code)
+    } else if work[flow.sizes.slots() + i] == 0 {
+        sample_source(code)
+    } else {
+        Some(Source::Control)
     }
-    let count = sizes.nodes;
-    if work[2 * count + i] == 0 {
-        return load_code(word);
-    }
-    6
 }
 
-// The place of a load among the homes, and one: audio, network, parameters, states, delays. 0 is none.
-fn home_place(code: u32, index: usize, states: usize) -> usize
+// The place of a load among the homes: audio, network, parameters, states, delays.
+#[tactic(auto, unfolding(crate::specs::SourceLaws::place_word))]
+fn home_place(source: Option<Source>, index: usize, states: usize) -> Option<usize>
     requires { (index < 4294967296) × (states ≤ 4096) }
-    ensures { result ≡ place_word states code index }
+    ensures { option_number result ≡ place_word states (source_number source) index }
 {
-    if code == 1 {
-        return 1;
+    match source? {
+        Source::Audio => Some(0),
+        Source::Network => Some(1),
+        Source::Parameter => Some(2 + index),
+        Source::State => Some(258 + index),
+        Source::Delay => Some(258 + states + index),
+        Source::Control | Source::Immediate => None,
     }
-    if code == 2 {
-        return 2;
-    }
-    if code == 3 {
-        return 3 + index;
-    }
-    if code == 4 {
-        return 259 + index;
-    }
-    if code == 5 {
-        return 259 + states + index;
-    }
-    0
-}
-
-// A word that says whether there is a source.
-fn fresh_word(code: u32) -> u32
-    ensures { result ≡ fresh_word code }
-{
-    if code == 0 {
-        return 0;
-    }
-    1
 }
 
 // "Repeated loads of one source share the first node": of one node, by the homes of the nodes before it.
-fn canonical_node(nodes: &[u32], work: &mut [u32], sizes: Sizes, control: bool, i: usize)
-    requires { Lent sizes nodes.now (length work.old) × (i < sizes.nodes) }
-    ensures { work.new ≡ canonical_node sizes control nodes.now i work.old }
+#[tactic(auto, unfolding(crate::specs::SourceLaws::canonical_node, crate::specs::SourceLaws::canonical_as, crate::specs::SourceLaws::fresh_word))]
+fn canonical_node(flow: &Flow<'_>, work: &mut [u32], control: bool, i: usize)
+    requires { IsLent flow.now work.old × (i < flow.now.sizes.nodes) }
+    ensures { work.new ≡ canonical_node flow.now.sizes control flow.now.nodes.now i work.old }
 {
-    let count = sizes.nodes;
-    let states = sizes.states;
-    let delays = sizes.delays;
-    let code = source_code(nodes, work, sizes, control, i);
-    let at = 3 * i;
-    let index = nodes[at + 1] as usize;
-    let place = home_place(code, index, states);
+    let sizes = flow.sizes;
     let own = i as u32;
-    work[8 * count + i] = fresh_word(code);
-    if place == 0 {
-        work[4 * count + i] = own;
+    let source = source_of(flow, work, control, i);
+    work[sizes.fresh() + i] = u32::from(source.is_some());
+    let Some(place) = home_place(source, flow.first(i), sizes.states) else {
+        work[sizes.canonical() + i] = own;
         return;
-    }
-    let home = 17 * count + 3 * (states + delays + 1) + (place - 1);
+    };
+    let home = sizes.homes() + place;
     let found = work[home];
     if found == 0 {
         work[home] = own + 1;
-        work[4 * count + i] = own;
+        work[sizes.canonical() + i] = own;
         return;
     }
-    work[4 * count + i] = found - 1;
+    work[sizes.canonical() + i] = found - 1;
 }
 
 // Of all nodes, where no source has a home yet.
-pub fn canonical(nodes: &[u32], work: &mut [u32], sizes: Sizes, control: bool)
-    requires { Lent sizes nodes.now (length work.old) }
-    ensures { work.new ≡ turns (canonical_node sizes control nodes.now) work.old sizes.nodes }
+pub fn canonical(flow: &Flow<'_>, work: &mut [u32], control: bool)
+    requires { IsLent flow.now work.old }
+    ensures { work.new ≡ turns (canonical_node flow.now.sizes control flow.now.nodes.now) work.old flow.now.sizes.nodes }
 {
-    let count = sizes.nodes;
-    let mut i: usize = 0;
-    while i < count {
-        canonical_node(nodes, work, sizes, control, i);
-        i += 1;
+    for i in 0..flow.sizes.nodes {
+        canonical_node(flow, work, control, i);
     }
 }

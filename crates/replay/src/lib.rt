@@ -1,31 +1,112 @@
-// What the programs that replay blocks and compiles share: the lines that they read, the tables that these fill, and a refusal held to an answer line.
+// What the programs that replay blocks and compiles share: the lines that they read, the tables that these fill, and the count of what agrees.
 #![tactic(auto)]
 
 pub mod lines;
 pub mod store;
 
-ghost use Rattle.std.specs.Prelude.{◌≡◌, length};
-
 use answers::Refusal;
-use block::Header;
-use lines::Line;
+use lines::{Answer, Line};
+use std::io;
+use store::{Store, Table};
 
-pub fn is_refusal(refusal: Refusal, answer: Line) -> bool {
-    if answers::number(refusal) != answer.first {
-        return false;
-    }
-    answers::value(refusal) == answer.second as u64
+// How many answers were read: of those that ours agrees with how many accept, how many steps they list, and how many refuse, and how many differ.
+#[derive(Clone, Copy)]
+pub struct Tally {
+    pub seen: u64,
+    pub accepted: u64,
+    pub steps: u64,
+    pub refused: u64,
+    pub differences: u64,
 }
 
-// The header of the six words of a block line and its flag line; the sixth is no part of it.
-pub fn header_of(words: &[u32]) -> Header
-    requires { length words.now ≡ 6 }
+pub fn is_refusal(refusal: Refusal, answer: Answer) -> bool {
+    refusal.number() == answer.number && refusal.value() == answer.second as u64
+}
+
+// Whether a table holds the words that were told, and behind them what `behind` says of each place.
+pub fn holds<F: Fn(usize) -> u32>(table: &[u32], told: &[u32], behind: F) -> bool
+    requires { F.IsAlwaysCallable behind }
 {
-    Header {
-        version: words[0],
-        category: words[1],
-        channels: words[2],
-        network: words[3],
-        output: words[4],
+    for (at, word) in table.iter().enumerate() {
+        let expected = match told.get(at) {
+            Some(expected) => *expected,
+            None => behind(at),
+        };
+        // An early end: one word that differs decides it.
+        if *word != expected {
+            return false;
+        }
     }
+    told.len() <= table.len()
+}
+
+impl Tally {
+    fn new() -> Tally {
+        Tally {
+            seen: 0,
+            accepted: 0,
+            steps: 0,
+            refused: 0,
+            differences: 0,
+        }
+    }
+
+    // One answer more, to a call that lists so many steps.
+    fn count(&mut self, accepted: bool, steps: usize, agrees: bool) {
+        self.seen = self.seen.wrapping_add(1);
+        if !agrees {
+            self.differences = self.differences.wrapping_add(1);
+        } else if accepted {
+            self.accepted = self.accepted.wrapping_add(1);
+            self.steps = self.steps.wrapping_add(steps as u64);
+        } else {
+            self.refused = self.refused.wrapping_add(1);
+        }
+    }
+}
+
+// Reads lines to the input's end. An answer is held to ours, printed where it differs, and empties the tables; every other line adds to them.
+// A proved loop has to end, and nothing says that the input does: so it reads so many lines at most.
+pub fn replay<F: Fn(&Store, Answer) -> bool>(
+    rt: &(impl Input + Print),
+    subject: &str,
+    agrees: F,
+) -> io::Result<Tally>
+    requires { F.IsAlwaysCallable agrees }
+{
+    let mut input = rt.reader();
+    let mut store = Store::new();
+    let mut tally = Tally::new();
+    let mut last = None;
+    for _ in 0..1_000_000 {
+        let Some(line) = lines::read(&mut input)? else {
+            break;
+        };
+        match line {
+            Line::Comment => {}
+            Line::Unknown => last = None,
+            Line::Record(record) => {
+                store.add(record, 1);
+                last = Some(record);
+            }
+            Line::Repeat { times } => {
+                if let Some(record) = last {
+                    store.add(record, times);
+                }
+            }
+            Line::Answer(answer) => {
+                let agreed = agrees(&store, answer);
+                tally.count(
+                    answer.number == 0,
+                    store.table(Table::Steps).len() / 2,
+                    agreed,
+                );
+                if !agreed {
+                    println!(rt; "{subject} {} differs", tally.seen)?;
+                }
+                store.clear();
+            }
+        }
+    }
+    Ok(tally)
 }

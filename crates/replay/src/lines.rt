@@ -1,12 +1,25 @@
 // Lines of 37 bytes: a name, told by its first letter, and three words of eight hex digits.
 ghost use Rattle.std.specs.Prelude.{◌≤◌, ◌<◌};
 
+use crate::store::{Record, Table};
 use std::io::{self, ErrorKind, Read};
 
+// What a line says.
 #[derive(Clone, Copy)]
-pub struct Line {
-    pub name: u8,
-    pub first: u32,
+pub enum Line {
+    Comment,
+    // A name that no table has.
+    Unknown,
+    Record(Record),
+    // The record of the line above again, so many times.
+    Repeat { times: u32 },
+    Answer(Answer),
+}
+
+// The Rust's answer: 0 and two words, or a refusal's number and its value.
+#[derive(Clone, Copy)]
+pub struct Answer {
+    pub number: u32,
     pub second: u32,
     pub third: u32,
 }
@@ -31,35 +44,78 @@ fn word_at(bytes: &[u8; 37], at: usize) -> u32
     word
 }
 
-// A line with no words.
-pub fn plain(name: u8) -> Line {
-    Line {
-        name,
-        first: 0,
-        second: 0,
-        third: 0,
+// The record of a line with this name, whose first `width` words are of the table.
+fn record_of(name: u8, words: [u32; 3]) -> Option<Record> {
+    let (table, width) = match name {
+        b'e' => (Table::Expanded, 3),
+        b'n' => (Table::Nodes, 3),
+        b'p' => (Table::Parameters, 3),
+        b's' => (Table::States, 2),
+        b'd' => (Table::Delays, 2),
+        b'b' | b'f' => (Table::Header, 3),
+        b'g' => (Table::Given, 3),
+        b'l' => (Table::Steps, 2),
+        b'i' => (Table::Instructions, 2),
+        b'c' | b'k' => (Table::Counts, 3),
+        _ => return None,
+    };
+    Some(Record {
+        table,
+        words,
+        width,
+    })
+}
+
+// One word of the table of this number.
+fn one_word(table: u32, word: u32) -> Option<Record> {
+    let table = Table::numbered(table)?;
+    Some(Record {
+        table,
+        words: [word, 0, 0],
+        width: 1,
+    })
+}
+
+fn parsed(name: u8, words: [u32; 3]) -> Line {
+    let [first, second, third] = words;
+    let record = match name {
+        b'a' => {
+            return Line::Answer(Answer {
+                number: first,
+                second,
+                third,
+            });
+        }
+        b'r' => return Line::Repeat { times: first },
+        b'w' => one_word(first, second),
+        _ => record_of(name, words),
+    };
+    match record {
+        Some(record) => Line::Record(record),
+        None => Line::Unknown,
     }
 }
 
-// The next line of the input. Its name is 0 where there is none. An error is the reader's own, handed on; no other comes, and nothing but the reader is lent.
-pub fn read<R: Read>(input: &mut R) -> io::Result<Line> {
+// The next line of the input, if there is one; a line that begins with the byte 0 ends it too. An error is the reader's own, handed on; no other comes,
+// and nothing but the reader is lent.
+pub fn read<R: Read>(input: &mut R) -> io::Result<Option<Line>> {
     let mut bytes = [0u8; 37];
     if let Err(error) = input.read_exact(&mut bytes) {
         if error.kind() == ErrorKind::UnexpectedEof {
-            return Ok(plain(0));
+            return Ok(None);
         }
         return Err(error);
     }
-    if bytes[0] == b'#' {
-        return Ok(plain(b'#'));
+    match bytes[0] {
+        0 => Ok(None),
+        b'#' => Ok(Some(Line::Comment)),
+        name => {
+            let words = [
+                word_at(&bytes, 10),
+                word_at(&bytes, 19),
+                word_at(&bytes, 28),
+            ];
+            Ok(Some(parsed(name, words)))
+        }
     }
-    let first = word_at(&bytes, 10);
-    let second = word_at(&bytes, 19);
-    let third = word_at(&bytes, 28);
-    Ok(Line {
-        name: bytes[0],
-        first,
-        second,
-        third,
-    })
 }

@@ -1,155 +1,164 @@
-// The tables of the block or call that is being read, side by side in one array, each with room for 16,400 words: the longest block that is replayed is
-// one of 5,466 nodes, whose expansion is too large.
-ghost use Rattle.std.specs.Prelude.{◌≤◌};
+// The tables of the block or call that is being read.
+ghost use Rattle.std.specs.Prelude.{◌≤◌, ◌<◌};
 
-use crate::lines::Line;
+use crate::lines::Answer;
+use block::{Block, Header};
 
-pub const PARAMETERS: usize = 0;
+#[derive(Clone, Copy)]
+pub enum Table {
+    Parameters,
+    States,
+    Delays,
+    Nodes,
+    Expanded,
+    // Version, category, channels, network flag, output, and of a block how many words the lent table has, of a call its mask.
+    Header,
+    // Of a call: the expanded nodes, the table that is a word short, and the spare words of the others.
+    Given,
+    Steps,
+    Instructions,
+    // Control steps, sample steps, instructions, control slots, spill slots, and the most registers held.
+    Counts,
+}
 
-pub const STATES: usize = 1;
+const TABLES: [Table; 10] = [
+    Table::Parameters,
+    Table::States,
+    Table::Delays,
+    Table::Nodes,
+    Table::Expanded,
+    Table::Header,
+    Table::Given,
+    Table::Steps,
+    Table::Instructions,
+    Table::Counts,
+];
 
-pub const DELAYS: usize = 2;
-
-pub const NODES: usize = 3;
-
-pub const EXPANDED: usize = 4;
-// Version, category, channels, network flag, output, and of a block how many words the lent table has, of a call its mask.
-pub const HEADER: usize = 5;
-// Of a call: the expanded nodes, the table that is a word short, and the spare words of the others.
-pub const GIVEN: usize = 6;
-
-pub const STEPS: usize = 7;
-
-pub const INSTRUCTIONS: usize = 8;
-// Control steps, sample steps, instructions, control slots, spill slots, and the most registers held.
-pub const COUNTS: usize = 9;
-
-const TABLES: usize = 10;
-
+// The longest block that is replayed is one of 5,466 nodes, whose expansion is too large.
 const ROOM: usize = 16_400;
 
-// The table that a line of this name adds to.
-fn table_of(name: u8) -> usize {
-    match name {
-        b'e' => EXPANDED,
-        b'n' => NODES,
-        b'p' => PARAMETERS,
-        b's' => STATES,
-        b'd' => DELAYS,
-        b'b' => HEADER,
-        b'f' => HEADER,
-        b'g' => GIVEN,
-        b'l' => STEPS,
-        b'i' => INSTRUCTIONS,
-        b'c' => COUNTS,
-        b'k' => COUNTS,
-        _ => TABLES,
+impl Table {
+    pub fn numbered(number: u32) -> Option<Table> {
+        TABLES.get(number as usize).copied()
     }
-}
 
-// How many of the line's words are of its record.
-fn width_of(name: u8) -> usize
-    ensures { result ≤ 3 }
-{
-    match name {
-        b's' => 2,
-        b'd' => 2,
-        b'l' => 2,
-        b'i' => 2,
-        _ => 3,
-    }
-}
-
-// The first `width` of three words, behind a table's last one. A table without room for them counts more words than its
-// room, so that its block is a difference.
-fn put(
-    table: usize,
-    width: usize,
-    first: u32,
-    second: u32,
-    third: u32,
-    words: &mut [u32; 164_000],
-    counts: &mut [usize; 10],
-)
-    requires { width ≤ 3 }
-{
-    if TABLES <= table {
-        return;
-    }
-    let count = counts[table];
-    if ROOM - 3 < count {
-        counts[table] = ROOM + 1;
-        return;
-    }
-    let at = table * ROOM + count;
-    words[at] = first;
-    words[at + 1] = second;
-    words[at + 2] = third;
-    counts[table] = count + width;
-}
-
-fn put_line(line: Line, words: &mut [u32; 164_000], counts: &mut [usize; 10]) {
-    if line.name == b'w' {
-        put(line.first as usize, 1, line.second, 0, 0, words, counts);
-        return;
-    }
-    let table = table_of(line.name);
-    let width = width_of(line.name);
-    put(
-        table,
-        width,
-        line.first,
-        line.second,
-        line.third,
-        words,
-        counts,
-    );
-}
-
-// The line's words, so many times.
-pub fn add(line: Line, times: u32, words: &mut [u32; 164_000], counts: &mut [usize; 10]) {
-    let mut left = times;
-    while 0 < left {
-        put_line(line, words, counts);
-        left -= 1;
-    }
-}
-
-pub fn empty(counts: &mut [usize; 10]) {
-    counts[0] = 0;
-    counts[1] = 0;
-    counts[2] = 0;
-    counts[3] = 0;
-    counts[4] = 0;
-    counts[5] = 0;
-    counts[6] = 0;
-    counts[7] = 0;
-    counts[8] = 0;
-    counts[9] = 0;
-}
-
-// Whether every table had room for its words.
-pub fn fits(counts: &[usize; 10]) -> bool {
-    for table in 0..10 {
-        if ROOM < counts[table] {
-            return false;
+    // Where the table stands among the others.
+    fn place(self) -> usize
+        ensures { result < 10 }
+    {
+        match self {
+            Table::Parameters => 0,
+            Table::States => 1,
+            Table::Delays => 2,
+            Table::Nodes => 3,
+            Table::Expanded => 4,
+            Table::Header => 5,
+            Table::Given => 6,
+            Table::Steps => 7,
+            Table::Instructions => 8,
+            Table::Counts => 9,
         }
     }
-    true
 }
 
-// The first words of a table.
-pub fn part(words: &[u32], table: usize, count: usize) -> &[u32] {
-    if TABLES <= table {
-        return &words[..0];
+// Words of a line, of which the first `width` go behind a table's last ones.
+#[derive(Clone, Copy)]
+pub struct Record {
+    pub table: Table,
+    pub words: [u32; 3],
+    pub width: usize,
+    ghost within: { width ≤ 3 },
+}
+
+// The tables side by side, with the same room each, and how many words each has: fixed memory and no heap, as in document 01.
+#[derive(Drop)]
+pub struct Store {
+    words: [u32; 164_000],
+    counts: [usize; 10],
+}
+
+// A block that was read, and the word behind its header.
+#[derive(Clone, Copy)]
+pub struct Given<'a> {
+    pub block: Block<'a>,
+    pub sixth: u32,
+}
+
+impl Store {
+    pub fn new() -> Store {
+        Store {
+            words: [0; 164_000],
+            counts: [0; 10],
+        }
     }
-    if ROOM < count {
-        return &words[..0];
+
+    pub fn clear(&mut self) {
+        self.counts = [0; 10];
     }
-    let start = table * ROOM;
-    let end = start + count;
-    if words.len() < end {
-        return &words[..0];
+
+    // A table without room for the words counts more of them than its room, so that its block is a difference.
+    fn add_once(&mut self, record: Record) {
+        let place = record.table.place();
+        let count = self.counts[place];
+        if ROOM - 3 < count {
+            self.counts[place] = ROOM + 1;
+            return;
+        }
+        let at = place * ROOM + count;
+        let [first, second, third] = record.words;
+        self.words[at] = first;
+        self.words[at + 1] = second;
+        self.words[at + 2] = third;
+        self.counts[place] = count + record.width;
     }
-    &words[start..end]
+
+    // The record's words, so many times.
+    pub fn add(&mut self, record: Record, times: u32) {
+        for _ in 0..times {
+            self.add_once(record);
+        }
+    }
+
+    // Whether every table had room for its words.
+    fn fits(&self) -> bool {
+        self.counts.iter().all(|count| *count <= ROOM)
+    }
+
+    // The words of a table, none where it had no room for them.
+    pub fn table(&self, table: Table) -> &[u32] {
+        let place = table.place();
+        let start = place * ROOM;
+        self.words
+            .get(start..start + self.counts[place].min(ROOM))
+            .unwrap_or(&[])
+    }
+
+    // The block, where every table had room and the header is whole.
+    pub fn given(&self) -> Option<Given<'_>> {
+        if !self.fits() {
+            return None;
+        }
+        let head = self.table(Table::Header);
+        if head.len() != 6 {
+            return None;
+        }
+        let header = Header {
+            version: head[0],
+            category: head[1],
+            channels: head[2],
+            network: head[3],
+            output: head[4],
+        };
+        let block = Block {
+            header,
+            parameters: self.table(Table::Parameters),
+            states: self.table(Table::States),
+            delays: self.table(Table::Delays),
+            nodes: self.table(Table::Nodes),
+        };
+        Some(Given {
+            block,
+            sixth: head[5],
+        })
+    }
 }

@@ -1,13 +1,13 @@
 // Our answer on a call, held to the answer that was read.
-ghost use Rattle.std.specs.Prelude.{◌≡◌, ◌≤◌, length};
+ghost use Rattle.std.specs.Prelude.{◌≤◌};
 
-use block::Header;
-use compile::{Compilation, Compiled};
-use kernel::Kernel;
-use replay::lines::Line;
-use replay::{header_of, is_refusal, store};
+use answers::Refusal;
+use block::Block;
+use compile::Compiled;
+use replay::lines::Answer;
+use replay::store::{Given, Store, Table};
+use replay::{holds, is_refusal};
 
-const REGISTERS_LOCKED: u32 = 14;
 // What every word of the lent tables is before the call.
 const MARK: u32 = 0xa5a5_a5a5;
 // The room for the expansion, for the steps and the instructions, and for the work table.
@@ -20,266 +20,175 @@ const WORK: usize = 2_560;
 // A call with more states and delays than this is a difference, so that every length below is a number that fits.
 const MEMORIES: usize = 100;
 
+#[derive(Clone, Copy, PartialEq, Eq)]
+enum Lent {
+    Expansion,
+    Steps,
+    Instructions,
+    Work,
+}
+
 // How a call's tables are lent: expanded nodes, the table that is a word short, and the spare words of the others.
 #[derive(Clone, Copy)]
-struct Given {
+struct Lending {
     nodes: u32,
-    short: u32,
+    short: Option<Lent>,
     spare: u32,
 }
 
-// The five counts and the most registers held are the ones that were told.
-fn is_told(kernel: Kernel, registers: u32, told: &[u32]) -> bool
-    requires { length told.now ≡ 6 }
-{
-    if kernel.control != told[0] {
-        return false;
-    }
-    if kernel.sample != told[1] {
-        return false;
-    }
-    if kernel.instructions != told[2] {
-        return false;
-    }
-    if kernel.slots != told[3] {
-        return false;
-    }
-    if kernel.spills != told[4] {
-        return false;
-    }
-    registers == told[5]
+// A call that was read: a block and a mask, how its tables are lent, and what it should answer and write.
+#[derive(Clone, Copy)]
+struct Call<'a> {
+    block: Block<'a>,
+    mask: u32,
+    lending: Lending,
+    answer: Answer,
+    counts: &'a [u32],
+    steps: &'a [u32],
+    instructions: &'a [u32],
 }
 
-fn is_accepted(compiled: Compiled, answer: Line, told: &[u32]) -> bool {
-    if answer.first != 0 {
-        return false;
-    }
-    if told.len() != 6 {
-        return false;
-    }
-    is_told(compiled.kernel, compiled.registers, told)
+// The tables that a call writes.
+#[derive(Drop)]
+struct Tables<'a> {
+    expansion: &'a mut [u32],
+    steps: &'a mut [u32],
+    instructions: &'a mut [u32],
+    work: &'a mut [u32],
 }
 
-fn is_compilation(compilation: Compilation, answer: Line, told: &[u32]) -> bool {
-    match compilation {
-        Compilation::Accepted(compiled) => is_accepted(compiled, answer, told),
-        Compilation::Refused(refusal) => is_refusal(refusal, answer),
-    }
-}
-
-// Whether a call with this answer writes its tables.
-fn writes(number: u32) -> bool {
-    match number {
-        0 => true,
-        REGISTERS_LOCKED => true,
-        _ => false,
-    }
-}
-
-// The words that were told, and `behind` in every place behind them.
-fn holds(table: &[u32], told: &[u32], behind: u32) -> bool {
-    if table.len() < told.len() {
-        return false;
-    }
-    let mut at = 0;
-    while at < table.len() {
-        let mut word = behind;
-        if at < told.len() {
-            word = told[at];
+impl Lending {
+    // A call that is refused before its tables matter has no such line.
+    fn new(words: &[u32]) -> Lending {
+        let (nodes, short, spare) = if words.len() == 3 {
+            (words[0], words[1], words[2])
+        } else {
+            (0, 0, 0)
+        };
+        let short = match short {
+            1 => Some(Lent::Expansion),
+            2 => Some(Lent::Steps),
+            3 => Some(Lent::Instructions),
+            4 => Some(Lent::Work),
+            _ => None,
+        };
+        Lending {
+            nodes,
+            short,
+            spare,
         }
-        if table[at] != word {
+    }
+
+    // A table has the words that it needs and the spare ones, or is a word short. It is never longer than its room: a kernel that
+    // needs more gets 13, a difference.
+    fn length(self, table: Lent, needed: usize, room: usize) -> usize
+        ensures { result ≤ room }
+    {
+        if needed == 0 {
+            0
+        } else if room < needed {
+            room
+        } else if self.short == Some(table) {
+            needed - 1
+        } else {
+            room.min(needed.saturating_add(self.spare as usize))
+        }
+    }
+}
+
+impl Call<'_> {
+    // The five counts and the most registers held are the ones that were told.
+    fn is_answered(&self, compiled: Result<Compiled, Refusal>) -> bool {
+        match compiled {
+            Ok(Compiled { kernel, registers }) => {
+                self.answer.number == 0
+                    && self.counts[..]
+                        == [
+                            kernel.control,
+                            kernel.sample,
+                            kernel.instructions,
+                            kernel.slots,
+                            kernel.spills,
+                            registers,
+                        ]
+            }
+            Err(refusal) => is_refusal(refusal, self.answer),
+        }
+    }
+
+    // Whether a call with this answer writes its tables.
+    fn writes(&self) -> bool {
+        self.answer.number == 0 || self.answer.number == Refusal::RegistersLocked.number()
+    }
+
+    // A call that writes its tables leaves zeros behind its steps and instructions and in the work table, and the expansion as it was behind its nodes;
+    // any other changes nothing.
+    fn leaves(&self, tables: &Tables<'_>) -> bool {
+        let (written, behind) = if self.writes() {
+            (3 * self.lending.nodes as usize, 0)
+        } else {
+            (0, MARK)
+        };
+        tables
+            .expansion
+            .get(written..)
+            .is_some_and(|rest| holds(rest, &[], |_| MARK))
+            && holds(tables.steps, self.steps, |_| behind)
+            && holds(tables.instructions, self.instructions, |_| behind)
+            && holds(tables.work, &[], |_| behind)
+    }
+
+    fn compiles(&self, tables: &mut Tables<'_>) -> bool {
+        let compiled = compile::compile(
+            &self.block,
+            self.mask,
+            tables.expansion,
+            tables.steps,
+            tables.instructions,
+            tables.work,
+        );
+        self.is_answered(compiled) && self.leaves(tables)
+    }
+
+    // Lends the four tables, at document 01's lengths for the call's expanded nodes and memories.
+    fn agrees(&self) -> bool {
+        let memories = self.block.states.len() / 2 + self.block.delays.len() / 2;
+        if MEMORIES < memories {
             return false;
         }
-        at += 1;
-    }
-    true
-}
-
-// The expansion is as it was behind the first `written` words.
-fn keeps(expansion: &[u32], written: usize) -> bool {
-    if expansion.len() < written {
-        return false;
-    }
-    holds(&expansion[written..], &expansion[..0], MARK)
-}
-
-// A call that writes its tables leaves zeros behind its steps and instructions and in the work table; any other changes nothing.
-fn leaves(
-    answer: Line,
-    given: Given,
-    listed: &[u32],
-    operations: &[u32],
-    expansion: &[u32],
-    steps: &[u32],
-    instructions: &[u32],
-    work: &[u32],
-) -> bool {
-    let mut written = 0;
-    let mut behind = MARK;
-    if writes(answer.first) {
-        written = 3 * given.nodes as usize;
-        behind = 0;
-    }
-    if !keeps(expansion, written) {
-        return false;
-    }
-    if !holds(steps, listed, behind) {
-        return false;
-    }
-    if !holds(instructions, operations, behind) {
-        return false;
-    }
-    holds(work, &listed[..0], behind)
-}
-
-// A table has the words that it needs and the spare ones, or is a word short. It is never longer than its room: a kernel that
-// needs more gets 13, a difference.
-fn lent(needed: usize, room: usize, table: u32, given: Given) -> usize
-    ensures { result ≤ room }
-{
-    if needed == 0 {
-        return 0;
-    }
-    if room < needed {
-        return room;
-    }
-    if given.short == table {
-        return needed - 1;
-    }
-    let spare = given.spare as usize;
-    if room - needed < spare {
-        return room;
-    }
-    needed + spare
-}
-
-fn compiles(
-    answer: Line,
-    header: Header,
-    parameters: &[u32],
-    states: &[u32],
-    delays: &[u32],
-    nodes: &[u32],
-    mask: u32,
-    given: Given,
-    told: &[u32],
-    listed: &[u32],
-    operations: &[u32],
-    expansion: &mut [u32],
-    steps: &mut [u32],
-    instructions: &mut [u32],
-    work: &mut [u32],
-) -> bool {
-    let compilation = compile::compile(
-        header,
-        parameters,
-        states,
-        delays,
-        nodes,
-        mask,
-        expansion,
-        steps,
-        instructions,
-        work,
-    );
-    if !is_compilation(compilation, answer, told) {
-        return false;
-    }
-    leaves(
-        answer,
-        given,
-        listed,
-        operations,
-        expansion,
-        steps,
-        instructions,
-        work,
-    )
-}
-
-// Lends the four tables, at document 01's lengths for the call's expanded nodes and memories.
-fn lends(
-    answer: Line,
-    header: Header,
-    parameters: &[u32],
-    states: &[u32],
-    delays: &[u32],
-    nodes: &[u32],
-    mask: u32,
-    given: Given,
-    told: &[u32],
-    listed: &[u32],
-    operations: &[u32],
-) -> bool {
-    let memories = states.len() / 2 + delays.len() / 2;
-    if MEMORIES < memories {
-        return false;
-    }
-    let count = given.nodes as usize;
-    let most = 2 * (7 * count + 5 * (memories + 1));
-    let expanded = lent(3 * count, EXPANSION, 1, given);
-    let step_words = lent(most, LIST, 2, given);
-    let instruction_words = lent(most, LIST, 3, given);
-    let work_words = lent(32 * count + 16 * memories + 320, WORK, 4, given);
-    let mut expansion = [MARK; EXPANSION];
-    let mut steps = [MARK; LIST];
-    let mut instructions = [MARK; LIST];
-    let mut work = [MARK; WORK];
-    compiles(
-        answer,
-        header,
-        parameters,
-        states,
-        delays,
-        nodes,
-        mask,
-        given,
-        told,
-        listed,
-        operations,
-        &mut expansion[..expanded],
-        &mut steps[..step_words],
-        &mut instructions[..instruction_words],
-        &mut work[..work_words],
-    )
-}
-
-// A call that is refused before its tables matter has no such line.
-fn given_of(words: &[u32]) -> Given {
-    if words.len() != 3 {
-        return Given {
-            nodes: 0,
-            short: 0,
-            spare: 0,
-        };
-    }
-    Given {
-        nodes: words[0],
-        short: words[1],
-        spare: words[2],
+        let nodes = self.lending.nodes as usize;
+        let most = 2 * (7 * nodes + 5 * (memories + 1));
+        let work = 32 * nodes + 16 * memories + 320;
+        let expansion_words = self.lending.length(Lent::Expansion, 3 * nodes, EXPANSION);
+        let step_words = self.lending.length(Lent::Steps, most, LIST);
+        let instruction_words = self.lending.length(Lent::Instructions, most, LIST);
+        let work_words = self.lending.length(Lent::Work, work, WORK);
+        let mut expansion = [MARK; EXPANSION];
+        let mut steps = [MARK; LIST];
+        let mut instructions = [MARK; LIST];
+        let mut work = [MARK; WORK];
+        self.compiles(&mut Tables {
+            expansion: &mut expansion[..expansion_words],
+            steps: &mut steps[..step_words],
+            instructions: &mut instructions[..instruction_words],
+            work: &mut work[..work_words],
+        })
     }
 }
 
 // Whether our answer on the call that was read is `answer`, and the lent tables hold what they should.
-pub fn agrees(answer: Line, words: &[u32], counts: &[usize; 10]) -> bool {
-    if !store::fits(counts) {
+pub fn agrees(store: &Store, answer: Answer) -> bool {
+    let Some(Given { block, sixth }) = store.given() else {
         return false;
-    }
-    let head = store::part(words, store::HEADER, counts[store::HEADER]);
-    if head.len() != 6 {
-        return false;
-    }
-    let header = header_of(head);
-    let mask = head[5];
-    let parameters = store::part(words, store::PARAMETERS, counts[store::PARAMETERS]);
-    let states = store::part(words, store::STATES, counts[store::STATES]);
-    let delays = store::part(words, store::DELAYS, counts[store::DELAYS]);
-    let nodes = store::part(words, store::NODES, counts[store::NODES]);
-    let given = given_of(store::part(words, store::GIVEN, counts[store::GIVEN]));
-    let told = store::part(words, store::COUNTS, counts[store::COUNTS]);
-    let listed = store::part(words, store::STEPS, counts[store::STEPS]);
-    let operations = store::part(words, store::INSTRUCTIONS, counts[store::INSTRUCTIONS]);
-    lends(
-        answer, header, parameters, states, delays, nodes, mask, given, told, listed, operations,
-    )
+    };
+    let call = Call {
+        block,
+        mask: sixth,
+        lending: Lending::new(store.table(Table::Given)),
+        answer,
+        counts: store.table(Table::Counts),
+        steps: store.table(Table::Steps),
+        instructions: store.table(Table::Instructions),
+    };
+    call.agrees()
 }

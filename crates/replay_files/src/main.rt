@@ -8,84 +8,70 @@ mod effects;
 mod renderings;
 mod table_words;
 
-use damage::Tally;
-use house::Contents;
+use damage::{Subject, Tally, pairs};
+use house::{Contents, Engine};
 use std::io;
 
 // The numbers of samples: a payload of 1, 123, 124, 125 and 248 words, and one of many.
-fn samples_of(turn: u32) -> u32 {
-    match turn {
-        0 => 0,
-        1 => 122,
-        2 => 123,
-        3 => 124,
-        4 => 247,
-        _ => 10_000,
-    }
-}
+const SAMPLES: [u32; 6] = [0, 122, 123, 124, 247, 10_000];
 
 // The blocks: a payload of 12, 123, 124, 125 and 248 words, and one with 1,689.
-fn contents_of(turn: u32) -> Contents {
-    match turn {
-        0 => effects::contents(0, 0, 0, 1),
-        1 => effects::contents(0, 0, 0, 38),
-        2 => effects::contents(0, 1, 1, 37),
-        3 => effects::contents(0, 1, 0, 38),
-        4 => effects::contents(1, 1, 0, 78),
-        _ => effects::contents(20, 30, 30, 500),
-    }
+fn blocks() -> [Contents; 6] {
+    [
+        effects::contents(0, 0, 0, 1),
+        effects::contents(0, 0, 0, 38),
+        effects::contents(0, 1, 1, 37),
+        effects::contents(0, 1, 0, 38),
+        effects::contents(1, 1, 0, 78),
+        effects::contents(20, 30, 30, 500),
+    ]
 }
 
-// How many are read back, of kind 1 blocks, else renderings.
-fn read_back(kind: u32) -> u32 {
-    let mut count: u32 = 0;
-    let mut turn: u32 = 0;
-    while turn < 6 {
-        let same = round_trip(kind, turn);
-        let next = answer::plus(count, same);
-        count = next;
-        turn += 1;
-    }
-    count
+fn blocks_read_back() -> usize {
+    blocks()
+        .iter()
+        .filter(|contents| effects::round_trip(**contents))
+        .count()
 }
 
-fn round_trip(kind: u32, turn: u32) -> bool {
-    if kind == 1 {
-        return effects::round_trip(contents_of(turn));
-    }
-    renderings::round_trip(kind, samples_of(turn))
+fn renderings_read_back(engine: Engine) -> usize {
+    SAMPLES
+        .iter()
+        .filter(|count| renderings::round_trip(engine, **count))
+        .count()
 }
 
-fn print_round_trips(rt: &impl Print, subject: &[u8], kind: u32) -> io::Result<()> {
-    rt.write_all(subject)?;
-    println!(rt; "{} of 6 read back", read_back(kind))
+fn print_round_trips(rt: &impl Print, subject: &str, count: usize) -> io::Result<()> {
+    println!(rt; "{subject}: {count} of 6 read back")
 }
 
-fn print_tally(rt: &impl Print, subject: &[u8], tally: Tally) -> io::Result<()> {
-    rt.write_all(subject)?;
+fn print_tally(rt: &impl Print, subject: &str, tally: Tally) -> io::Result<()> {
     println!(rt;
-        "{} read, {} of 20, {} of 21, {} wrong",
+        "{subject}: {} read, {} of 20, {} of 21, {} wrong",
         tally.read, tally.checks, tally.frames, tally.wrong
     )
 }
 
 fn main(rt: HostRuntime) -> io::Result<()> {
-    print_round_trips(&rt, b"blocks: ", 1)?;
-    print_round_trips(&rt, b"graph renderings: ", 2)?;
-    print_round_trips(&rt, b"step renderings: ", 3)?;
-    print_tally(&rt, b"one bit of a block: ", damage::flips(1))?;
-    print_tally(&rt, b"one bit of a graph rendering: ", damage::flips(2))?;
-    print_tally(&rt, b"one bit of a step rendering: ", damage::flips(3))?;
-    print_tally(&rt, b"two bits, kind: ", damage::pairs(2, 0))?;
-    print_tally(&rt, b"two bits, number: ", damage::pairs(2, 1))?;
-    print_tally(&rt, b"two bits, used count: ", damage::pairs(2, 2))?;
-    print_tally(&rt, b"two bits, first payload word: ", damage::pairs(3, 3))?;
+    let block = Subject::Block;
+    let graph = Subject::Rendering(Engine::Graph);
+    let steps = Subject::Rendering(Engine::Steps);
+    print_round_trips(&rt, "blocks", blocks_read_back())?;
+    print_round_trips(&rt, "graph renderings", renderings_read_back(Engine::Graph))?;
+    print_round_trips(&rt, "step renderings", renderings_read_back(Engine::Steps))?;
+    print_tally(&rt, "one bit of a block", block.flips())?;
+    print_tally(&rt, "one bit of a graph rendering", graph.flips())?;
+    print_tally(&rt, "one bit of a step rendering", steps.flips())?;
+    print_tally(&rt, "two bits, kind", pairs(Engine::Graph, 0))?;
+    print_tally(&rt, "two bits, number", pairs(Engine::Graph, 1))?;
+    print_tally(&rt, "two bits, used count", pairs(Engine::Graph, 2))?;
+    print_tally(&rt, "two bits, first payload word", pairs(Engine::Steps, 3))?;
     print_tally(
         &rt,
-        b"two bits, another payload word: ",
-        damage::pairs(3, 64),
+        "two bits, another payload word",
+        pairs(Engine::Steps, 64),
     )?;
-    print_tally(&rt, b"cut block: ", damage::cuts(1))?;
-    print_tally(&rt, b"cut graph rendering: ", damage::cuts(2))?;
-    print_tally(&rt, b"cut step rendering: ", damage::cuts(3))
+    print_tally(&rt, "cut block", block.cuts())?;
+    print_tally(&rt, "cut graph rendering", graph.cuts())?;
+    print_tally(&rt, "cut step rendering", steps.cuts())
 }

@@ -1,6 +1,4 @@
 // What the tables of a file hold: a word for each table and place, so that a table is known without a copy of it.
-use crate::answer;
-
 #[derive(Clone, Copy)]
 pub enum Table {
     Samples,
@@ -28,7 +26,7 @@ fn parameter(at: usize) -> u32 {
 // An initial value or a length of its own, and no update or that by node 0.
 fn memory(at: usize, first: u32) -> u32 {
     if at % 2 == 0 {
-        return std::num::wrapping_add_u32(first, (at % 0x1_0000) as u32);
+        return first.wrapping_add((at % 0x1_0000) as u32);
     }
     (at / 2 % 2) as u32
 }
@@ -58,68 +56,41 @@ pub fn word_of(table: Table, at: usize) -> u32 {
 }
 
 pub fn fill(table: Table, words: &mut [u32]) {
-    let mut at: usize = 0;
-    while at < words.len() {
-        words[at] = word_of(table, at);
-        at += 1;
+    for (at, word) in words.iter_mut().enumerate() {
+        *word = word_of(table, at);
     }
 }
 
 // Whether the first `count` words are the table's, and those behind them as they were lent.
 pub fn holds(table: Table, count: usize, words: &[u32]) -> bool {
-    if words.len() < count {
-        return false;
-    }
-    let mut at: usize = 0;
-    while at < words.len() {
-        if words[at] != expected(table, count, at) {
-            return false;
-        }
-        at += 1;
-    }
-    true
+    count <= words.len()
+        && words
+            .iter()
+            .enumerate()
+            .all(|(at, word)| *word == expected(table, count, at))
 }
 
 fn expected(table: Table, count: usize, at: usize) -> u32 {
     if at < count {
-        return word_of(table, at);
+        word_of(table, at)
+    } else {
+        word_of(Table::Lent, at)
     }
-    word_of(Table::Lent, at)
 }
 
 // How many of the first `count` words are not the table's.
-pub fn differing(table: Table, count: usize, words: &[u32]) -> u32 {
-    if words.len() < count {
-        return 0;
-    }
-    let mut different: u32 = 0;
-    let mut at: usize = 0;
-    while at < count {
-        different = answer::plus(different, words[at] != word_of(table, at));
-        at += 1;
-    }
-    different
+pub fn differing(table: Table, count: usize, words: &[u32]) -> usize {
+    words
+        .iter()
+        .take(count)
+        .enumerate()
+        .filter(|(at, word)| **word != word_of(table, *at))
+        .count()
 }
 
 // Whether the bytes from `from` on are as they were lent.
 pub fn bytes_kept(bytes: &[u8], from: usize) -> bool {
-    if bytes.len() < from {
-        return false;
-    }
-    let mut at: usize = from;
-    while at < bytes.len() {
-        if bytes[at] != 0xa5 {
-            return false;
-        }
-        at += 1;
-    }
-    true
-}
-
-// The first `count` words, or none where there are not so many.
-pub fn first(words: &[u32], count: usize) -> &[u32] {
-    if words.len() < count {
-        return &words[..0];
-    }
-    &words[0..count]
+    bytes
+        .get(from..)
+        .is_some_and(|rest| rest.iter().all(|byte| *byte == 0xa5))
 }

@@ -1,5 +1,5 @@
 -- The call: what an accepted answer says, each way out of the tests, and what an accepted call leaves. Assumes nothing.
-use Rattle.std.specs.Prelude.{◌≡◌, refl, Bool, true, false, cond, ◌||◌, List, [], ℕ, zero, suc, ◌+◌, ◌*◌, ◌≤◌, ◌<◌, min, length, ltb, eqb}
+use Rattle.std.specs.Prelude.{◌≡◌, refl, Bool, true, false, cond, ◌||◌, List, [], ℕ, zero, suc, ◌+◌, ◌*◌, ◌≤◌, ◌<◌, min, length, ltb, eqb, Result, Ok, Err, IsErrAnd}
 use Rattle.std.proofs.Math.Path.{sym}
 use Rattle.std.proofs.Common.{ap, ◌∙◌}
 use Rattle.std.proofs.Math.Bool.{not}
@@ -7,8 +7,6 @@ use native.Mathlib.Omega.{arith}
 use borrow.Author.Tests.{ltb-false, lt-ltb, le-ltb, not-false, ne_eqb}
 use Rattle.tables.specs.Tests.{neither, &_both, differ_of}
 use Rattle.tables.specs.Loops.{every}
-use Rattle.answers.specs.declared.Verdict.{Verdict}
-use Rattle.answers.specs.declared.Verdict.TheVariants.{Valid, Refused}
 use Rattle.answers.specs.declared.Refusal.{Refusal}
 use Rattle.answers.specs.Numbers.{Answer, accepted, refused, refusal, answer_of}
 use Rattle.answers.specs.Order.{◌⨾◌, refuse}
@@ -30,7 +28,6 @@ use Rattle.memory.specs.Sizes.{run_fits}
 use Rattle.memory.specs.SizeLaws.{Fitting, fitting, small, fit, graph_lengths}
 use Rattle.memory.specs.Signals.{Signals, Rendered}
 use Rattle.step_run.specs.declared.Done.{Done}
-use Rattle.step_run.specs.declared.Answer.TheVariants as Answers
 use Rattle.step_run.specs.Budget.{samples_done}
 use Rattle.step_run.specs.BudgetLaws.{done_inputs, done_of}
 use Rattle.machine.specs.Ready.{Listed}
@@ -134,15 +131,15 @@ accepted_run b c s t e =
     }
 
 -- ---- the ways out of the tests. v is validation's verdict, n the expanded length as the code counts it
-module _ (b : Block) (c : Code) (s : Signals) (t : Tables) (v : Verdict) (e : answer_of v ≡ validation b) where
-  pub refused_block : {r : Refusal} → v ≡ Refused r → answer_of v ≡ run_judged b c s t
+module _ (b : Block) (c : Code) (s : Signals) (t : Tables) (v : Result Unit Refusal) (e : answer_of v ≡ validation b) where
+  pub refused_block : (w : Result Unit Refusal) {r : Refusal} → v ≡ Err r → IsErrAnd w (λ y. y ≡ r) → answer_of w ≡ run_judged b c s t
   unfolding run_judged
-  refused_block f = hand_on v _ e f
+  refused_block w f h = hand_on w _ e f h
 
-  counted : (n : ℕ) → v ≡ Valid → n ≡ min (expanded_length b) 65537 → n ≡ expanded_length b
+  counted : (n : ℕ) {u : Unit} → v ≡ Ok u → n ≡ min (expanded_length b) 65537 → n ≡ expanded_length b
   counted n f k = let w = (valid b (sym e ∙ ap answer_of f)).fits in omega arith
 
-  module _ (f : v ≡ Valid) (n : ℕ) (k : n ≡ min (expanded_length b) 65537) (d : Bool)
+  module _ {u : Unit} (f : v ≡ Ok u) (n : ℕ) (k : n ≡ min (expanded_length b) 65537) (d : Bool)
       (g : d ≡ shorter c.kernel n (length t.expansion) (length c.steps) (length c.instructions) (length t.control) (length t.spills)) where
     is_short : d ≡ too_short b c t
     is_short =
@@ -151,14 +148,14 @@ module _ (b : Block) (c : Code) (s : Signals) (t : Tables) (v : Verdict) (e : an
 
     pub short_table : d ≡ true → refused 13 [] ≡ run_judged b c s t
     unfolding run_judged
-    short_table q = go_on v _ e f (sym (refuse_stop 13 _ (sym is_short ∙ q)))
+    short_table q = go_on _ e f (sym (refuse_stop 13 _ (sym is_short ∙ q)))
 
     module _ (long-enough : d ≡ false) (m : Bool)
         (h : m ≡ list_may_run (sizes (parameter_count b) (state_count b) (delay_count b) c.kernel) c.steps c.instructions c.kernel) where
       pub bad_list : m ≡ false → refused 15 [] ≡ run_judged b c s t
       unfolding run_judged
       bad_list q =
-          go_on v _ e f
+          go_on _ e f
           (sym (refuse_pass 13 _ (sym is_short ∙ long-enough) ∙ refuse_stop 15 _ (ap not (sym h ∙ q))))
 
       module _ (good : m ≡ true) (w : Bool)
@@ -166,7 +163,7 @@ module _ (b : Block) (c : Code) (s : Signals) (t : Tables) (v : Verdict) (e : an
         sizes_answer : (a : Answer Unit) → a ≡ refuse 16 (not w) → a ≡ run_judged b c s t
         unfolding run_judged
         sizes_answer a p =
-            go_on v _ e f
+            go_on _ e f
             (p
             ∙ (ap (λ (z : Bool). refuse 16 (not z)) i
             ∙ sym (refuse_pass 13 _ (sym is_short ∙ long-enough) ∙ refuse_pass 15 _ (ap not (sym h ∙ good)))))
@@ -235,8 +232,8 @@ bare_judged : (b : Block) (c : Code) (s : Signals) (t : Tables) → run_judged b
 unfolding run_judged
 bare_judged b c s t = refl
 
-pub refused_call : (b : Block) (c : Code) (budget : ℕ) (s : Signals) (t : Tables) (v : Verdict) (r : Refusal) → answer_of v ≡ run_judged b c s (bare t) → v ≡ Refused r
-    → outcome (Run.answer_of (Answers.Refused r)) t ≡ run_call b c budget s t
+pub refused_call : (b : Block) (c : Code) (budget : ℕ) (s : Signals) (t : Tables) (v : Result Unit Refusal) (r : Refusal) → answer_of v ≡ run_judged b c s (bare t) → v ≡ Err r
+    → outcome (answer_of {A = Done} (Err r)) t ≡ run_call b c budget s t
 unfolding run_call run_answer run_after ◌⨾◌
 refused_call b c budget s t v r e f =
     let a : run_judged b c s t ≡ refusal r = sym (bare_judged b c s t) ∙ (sym e ∙ ap answer_of f) in

@@ -5,6 +5,8 @@ pub mod Run
 pub mod BudgetLaws
 -- what the functions of a call's samples require
 pub mod Ready
+-- the structs that samples are handed
+pub mod Setup
 -- laws of samples, and the steps spent
 pub mod SampleLaws
 -- the call

@@ -11,8 +11,6 @@ use Rattle.memory.specs.Lines.{Memories}
 use Rattle.memory.specs.Sizes.{run_fits}
 use Rattle.memory.specs.Signals.{given, Signals, Rendered, rendered, given_by}
 use Rattle.step_run.specs.declared.Done.{Done}
-use Rattle.step_run.specs.declared.Answer.{Answer}
-use Rattle.step_run.specs.declared.Answer.TheVariants.{Accepted, Refused}
 use Rattle.machine.specs.Machine.{Machine, machine, Program, program, steps_to, with_output}
 use Rattle.step_run.specs.Budget.{samples_done}
 
@@ -100,10 +98,6 @@ pub record Outcome : Type 0 where
 
 abbrev pub outcome : Numbers.Answer Done → Tables → Outcome
 outcome answer t = record { answer = answer; tables = t }
-
-abbrev pub answer_of : Answer → Numbers.Answer Done
-answer_of (Accepted d) = Numbers.accepted d
-answer_of (Refused r) = Numbers.refusal r
 
 -- the run of n samples, from cleared registers and slots
 unfoldable pub run_for : Setup → Tables → ℕ → Running

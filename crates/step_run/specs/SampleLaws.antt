@@ -8,7 +8,8 @@ use Rattle.tables.specs.Tests.{&_both}
 use Rattle.tables.specs.Loops.{every}
 use Rattle.kernel.specs.declared.Kernel.{Kernel}
 use Rattle.kernel.specs.declared.Phase.TheVariants.{Control, Sample}
-use Rattle.kernel.specs.Lists.{Sizes, sizes, phase_may_run, list_may_run}
+use Rattle.kernel.specs.declared.Sizes.{Sizes}
+use Rattle.kernel.specs.Lists.{sizes, phase_may_run, list_may_run}
 use Rattle.memory.specs.Lines.{Memories, memories}
 use Rattle.memory.specs.Fit.{Fit, line_lengths, line_bases}
 use Rattle.memory.specs.Signals.{given, network_word, given_by, rendered}

@@ -4,17 +4,21 @@
 mod budget;
 mod samples;
 
-ghost use Rattle.std.specs.Prelude.{◌≡◌, [], ◌≤◌};
-ghost use Rattle.answers.specs.Numbers as Numbers;
-ghost use Rattle.block.specs.Block.{block};
-ghost use Rattle.memory.specs.Lines.{memories};
-ghost use Rattle.memory.specs.Signals.{signals, rendered};
-ghost use Rattle.step_run.specs.Run.{code_of, tables, outcome, answer_of, shorter, run_judged, run_call};
+ghost use Rattle.std.specs.Prelude.{◌≡◌, [], ◌≤◌, length};
+ghost use Rattle.answers.specs.Numbers.{accepted, answer_of};
+ghost use Rattle.block.specs.Block.{the_block};
+ghost use Rattle.memory.specs.Lent.{the_signals, KeepsTables};
+ghost use Rattle.machine.specs.Tables.{KeepsSlots};
+ghost use Rattle.step_run.specs.Run.{outcome, shorter, run_judged, run_call};
+ghost use Rattle.step_run.specs.Setup.{the_code, the_tables};
 
-use answers::{Refusal, Verdict};
-use block::{Header, kinds};
-use kernel::{Kernel, lists};
-use memory::{lines, sizes};
+use answers::Refusal;
+use block::{Block, kinds};
+use kernel::Code;
+use machine::steps::Slots;
+use memory::lines::Memories;
+use memory::signals::Signals;
+use memory::sizes;
 
 // What an accepted call tells: how many samples it did and how many steps that took.
 #[derive(Clone, Copy)]
@@ -23,239 +27,120 @@ pub struct Done {
     pub steps: u32,
 }
 
-// The answer of `run`.
-#[derive(Clone, Copy)]
-pub enum Answer {
-    Accepted(Done),
-    Refused(Refusal),
-}
-
-// "The sixteen registers go in and come back as one array of words."
+// "The sixteen registers go in and come back as one array of words." No Result around it: they come back whatever the answer is.
 #[derive(Clone, Copy)]
 pub struct Ran {
-    pub answer: Answer,
+    pub answer: Result<Done, Refusal>,
     pub registers: [u32; 16],
 }
 
 // A table shorter than its declared count, or the expansion than three words for each of so many nodes. Sums of declared counts need 64 bits.
-fn shorter(
-    kernel: Kernel,
-    nodes: usize,
-    expansion: usize,
-    steps: usize,
-    instructions: usize,
-    control: usize,
-    spills: usize,
-) -> bool
+#[tactic(auto, unfolding(crate::specs::Run::shorter))]
+fn shorter(code: &Code<'_>, nodes: usize, expansion: &[u32], slots: &Slots<'_>) -> bool
     requires { nodes ≤ 65537 }
-    ensures { result ≡ shorter kernel nodes expansion steps instructions control spills }
+    ensures { result ≡ shorter code.now.kernel nodes (length expansion.now) (length code.now.steps.now) (length code.now.instructions.now) (length slots.now.control.now) (length slots.now.spills.now) }
 {
-    if expansion < 3 * nodes {
-        return true;
-    }
-    if steps < 2 * (lines::place(kernel.control) + lines::place(kernel.sample)) {
-        return true;
-    }
-    if instructions < 2 * lines::place(kernel.instructions) {
-        return true;
-    }
-    if control < lines::place(kernel.slots) {
-        return true;
-    }
-    spills < lines::place(kernel.spills)
+    let kernel = code.kernel;
+    expansion.len() < 3 * nodes
+        || code.steps.len() < 2 * (kernel.control as usize + kernel.sample as usize)
+        || code.instructions.len() < 2 * (kernel.instructions as usize)
+        || slots.control.len() < kernel.slots as usize
+        || slots.spills.len() < kernel.spills as usize
 }
 
 // The refusals of a call, from the lengths and words of its tables.
 pub fn judge(
-    header: Header,
-    parameters: &[u32],
-    states: &[u32],
-    delays: &[u32],
-    nodes: &[u32],
-    kernel: Kernel,
-    steps: &[u32],
-    instructions: &[u32],
-    settings: &[u32],
-    input: &[u32],
-    network: &[u32],
+    block: &Block<'_>,
+    code: &Code<'_>,
+    signals: &Signals<'_>,
     expansion: &[u32],
-    control: &[u32],
-    spills: &[u32],
-    held: &[u32],
-    area: &[u32],
-    cursors: &[u32],
+    slots: &Slots<'_>,
+    memories: &Memories<'_>,
     output: &[u32],
-) -> Verdict
-    ensures { Numbers.answer_of result ≡ run_judged (block header parameters.now states.now delays.now nodes.now) (code_of kernel steps.now instructions.now) (signals settings.now input.now network.now) (tables expansion.now control.now spills.now (rendered output.now (memories held.now area.now cursors.now)) []) }
+) -> Result<(), Refusal>
+    ensures { answer_of result ≡ run_judged (the_block block.now) (the_code code.now) (the_signals signals.now) (the_tables expansion.now slots.now memories.now output.now []) }
 {
-    let verdict = block::validate(header, parameters, states, delays, nodes);
-    let Verdict::Valid = verdict else {
-        return verdict;
-    };
-    let count = kinds::expanded_length(nodes);
-    if shorter(
-        kernel,
-        count,
-        expansion.len(),
-        steps.len(),
-        instructions.len(),
-        control.len(),
-        spills.len(),
-    ) {
-        return Verdict::Refused(Refusal::TableTooShort);
+    block.validate()?;
+    let count = kinds::expanded_length(block.nodes);
+    if shorter(code, count, expansion, slots) {
+        return Err(Refusal::TableTooShort);
     }
-    if !lists::list_may_run(
-        kernel,
-        steps,
-        instructions,
-        parameters.len() / 3,
-        states.len() / 2,
-        delays.len() / 2,
+    if !code.list_may_run(
+        block.parameters.len() / 3,
+        block.states.len() / 2,
+        block.delays.len() / 2,
     ) {
-        return Verdict::Refused(Refusal::BadStepList);
+        return Err(Refusal::BadStepList);
     }
-    if !sizes::run_fits(
-        header, parameters, states, delays, settings, held, area, cursors, input, output, network,
-    ) {
-        return Verdict::Refused(Refusal::SizesDiffer);
+    if !sizes::run_fits(block, signals, memories, output) {
+        return Err(Refusal::SizesDiffer);
     }
-    Verdict::Valid
+    Ok(())
 }
 
 // A call that is accepted: the expansion, and as many samples as the budget has room for. With none only the expansion is written.
 fn render(
-    header: Header,
-    parameters: &[u32],
-    states: &[u32],
-    delays: &[u32],
-    nodes: &[u32],
-    kernel: Kernel,
-    steps: &[u32],
-    instructions: &[u32],
-    settings: &[u32],
-    input: &[u32],
-    network: &[u32],
+    block: &Block<'_>,
+    code: &Code<'_>,
+    signals: &Signals<'_>,
     registers: [u32; 16],
     budget: u32,
     expansion: &mut [u32],
-    control: &mut [u32],
-    spills: &mut [u32],
-    held: &mut [u32],
-    area: &mut [u32],
-    cursors: &mut [u32],
+    slots: &mut Slots<'_>,
+    memories: &mut Memories<'_>,
     output: &mut [u32],
 ) -> Ran
-    requires { run_judged (block header parameters.now states.now delays.now nodes.now) (code_of kernel steps.now instructions.now) (signals settings.now input.now network.now) (tables expansion.old control.old spills.old (rendered output.old (memories held.old area.old cursors.old)) []) ≡ Numbers.accepted tt }
-    ensures { outcome (answer_of result.answer) (tables expansion.new control.new spills.new (rendered output.new (memories held.new area.new cursors.new)) result.registers) ≡ run_call (block header parameters.now states.now delays.now nodes.now) (code_of kernel steps.now instructions.now) budget (signals settings.now input.now network.now) (tables expansion.old control.old spills.old (rendered output.old (memories held.old area.old cursors.old)) registers) }
+    requires { run_judged (the_block block.now) (the_code code.now) (the_signals signals.now) (the_tables expansion.old slots.old memories.old output.old []) ≡ accepted tt }
+    ensures done { outcome (answer_of result.answer) (the_tables expansion.new slots.new memories.new output.new result.registers) ≡ run_call (the_block block.now) (the_code code.now) budget (the_signals signals.now) (the_tables expansion.old slots.old memories.old output.old registers) }
+    ensures same_slots { KeepsSlots slots.old slots.new }
+    ensures same_tables { KeepsTables memories.old memories.new }
 {
-    let flag = header.network;
-    expand::valid::expand(header, parameters, states, delays, nodes, expansion);
-    let count = budget::samples_done(kernel, budget, input.len());
+    // it can refuse a short table alone, and `judge` has measured it
+    let _ = expand::valid::expand(block, expansion);
+    let count = budget::samples_done(code.kernel, budget, signals.input.len());
     if count == 0 {
-        let none = Answer::Accepted(Done {
+        let none = Done {
             samples: 0,
             steps: 0,
-        });
+        };
         return Ran {
-            answer: none,
+            answer: Ok(none),
             registers,
         };
     }
-    let done = budget::done(kernel, budget, count);
-    let played = samples::play(
-        count,
-        flag,
-        kernel,
-        steps,
-        instructions,
-        settings,
-        input,
-        network,
-        delays,
-        control,
-        spills,
-        held,
-        area,
-        cursors,
-        output,
-    );
-    let answer = Answer::Accepted(done);
+    let done = budget::done(code.kernel, budget, count);
+    let registers = samples::play(count, block, code, signals, slots, memories, output);
     Ran {
-        answer,
-        registers: played,
+        answer: Ok(done),
+        registers,
     }
 }
 
 // The step run of a block's kernel over the samples of `input`, as far as the budget of steps goes: an answer, the registers, the expanded nodes, the slots, the
-// memories and the output after the last sample done.
+// memories and the output after the last sample done. The tables come in four parts, since the graph run and the check are lent others of them.
+#[tactic(auto, using(crate::specs::CallLaws::refused_call))]
 pub fn run(
-    header: Header,
-    parameters: &[u32],
-    states: &[u32],
-    delays: &[u32],
-    nodes: &[u32],
-    kernel: Kernel,
-    steps: &[u32],
-    instructions: &[u32],
-    settings: &[u32],
-    input: &[u32],
-    network: &[u32],
+    block: &Block<'_>,
+    code: &Code<'_>,
+    signals: &Signals<'_>,
     registers: [u32; 16],
     budget: u32,
     expansion: &mut [u32],
-    control: &mut [u32],
-    spills: &mut [u32],
-    held: &mut [u32],
-    area: &mut [u32],
-    cursors: &mut [u32],
+    slots: &mut Slots<'_>,
+    memories: &mut Memories<'_>,
     output: &mut [u32],
 ) -> Ran
-    ensures { outcome (answer_of result.answer) (tables expansion.new control.new spills.new (rendered output.new (memories held.new area.new cursors.new)) result.registers) ≡ run_call (block header parameters.now states.now delays.now nodes.now) (code_of kernel steps.now instructions.now) budget (signals settings.now input.now network.now) (tables expansion.old control.old spills.old (rendered output.old (memories held.old area.old cursors.old)) registers) }
+    ensures done { outcome (answer_of result.answer) (the_tables expansion.new slots.new memories.new output.new result.registers) ≡ run_call (the_block block.now) (the_code code.now) budget (the_signals signals.now) (the_tables expansion.old slots.old memories.old output.old registers) }
+    ensures same_slots { KeepsSlots slots.old slots.new }
+    ensures same_tables { KeepsTables memories.old memories.new }
 {
-    let verdict = judge(
-        header,
-        parameters,
-        states,
-        delays,
-        nodes,
-        kernel,
-        steps,
-        instructions,
-        settings,
-        input,
-        network,
-        expansion,
-        control,
-        spills,
-        held,
-        area,
-        cursors,
-        output,
-    );
-    if let Verdict::Refused(refusal) = verdict {
-        let answer = Answer::Refused(refusal);
-        return Ran { answer, registers };
+    if let Err(refusal) = judge(block, code, signals, expansion, slots, memories, output) {
+        return Ran {
+            answer: Err(refusal),
+            registers,
+        };
     }
     render(
-        header,
-        parameters,
-        states,
-        delays,
-        nodes,
-        kernel,
-        steps,
-        instructions,
-        settings,
-        input,
-        network,
-        registers,
-        budget,
-        expansion,
-        control,
-        spills,
-        held,
-        area,
-        cursors,
-        output,
+        block, code, signals, registers, budget, expansion, slots, memories, output,
     )
 }

@@ -1,67 +1,59 @@
 // The samples of a call: the control steps once, then the sample steps for each sample.
-ghost use Rattle.std.specs.Prelude.{◌≡◌, List, [], ℕ, ◌+◌, ◌*◌, ◌<◌, length};
-ghost use Rattle.kernel.specs.declared.Phase.TheVariants.{Control, Sample};
-ghost use Rattle.memory.specs.Lines.{memories};
-ghost use Rattle.memory.specs.Fit.{line_lengths};
-ghost use Rattle.memory.specs.Signals.{signals, rendered};
-ghost use Rattle.machine.specs.Machine.{machine, with_output};
-ghost use Rattle.step_run.specs.Run.{code_of, setup, cleared, control_done, sample_done, running, emit, samples_to, run_for, tables, tables_of};
-ghost use Rattle.machine.specs.Ready.{Ready, Listed};
-ghost use Rattle.step_run.specs.Ready.{Heard, Sounding, Playable};
+ghost use Rattle.std.specs.Prelude.{◌≡◌, [], ℕ, ◌+◌, ◌*◌};
+ghost use Rattle.block.specs.Block.{the_block};
+ghost use Rattle.memory.specs.Lent.{KeepsTables};
+ghost use Rattle.machine.specs.Machine.{with_output};
+ghost use Rattle.machine.specs.Tables.{the_machine, KeepsSlots, IsReady};
+ghost use Rattle.step_run.specs.Run.{control_done, sample_done, running, emit, samples_to, run_for, tables_of};
+ghost use Rattle.step_run.specs.Ready.{Heard, Sounding};
 ghost use Rattle.step_run.specs.SampleLaws.{hushed};
+ghost use Rattle.step_run.specs.Setup.{the_setup, setup_for, the_tables, begun, ControlListed, SamplesListed, IsPlayable};
 
-use kernel::{Kernel, Phase};
-use machine::steps;
-use memory::lines;
+use block::Block;
+use kernel::{Code, Phase};
+use machine::steps::{self, Program, Slots};
+use memory::lines::{self, Lines, Memories};
+use memory::signals::{Given, Signals};
 
 // "A sample with no output store writes 0x7fc00000."
 const NO_OUTPUT: u32 = 0x7fc0_0000;
+
+// What the samples of a call run with and never write: the program, the block's network flag and the signals.
+#[derive(Clone, Copy)]
+pub struct Setup<'a> {
+    pub program: Program<'a>,
+    pub flag: u32,
+    pub signals: Signals<'a>,
+}
 
 // Sample t: its word is what the last output store leaves.
 fn sample(
     registers: [u32; 16],
     t: usize,
-    flag: u32,
-    kernel: Kernel,
-    steps: &[u32],
-    instructions: &[u32],
-    settings: &[u32],
-    input: &[u32],
-    network: &[u32],
-    delays: &[u32],
-    bases: &[u32; 4096],
-    control: &mut [u32],
-    spills: &mut [u32],
-    held: &mut [u32],
-    area: &mut [u32],
-    cursors: &mut [u32],
+    setup: &Setup<'_>,
+    slots: &mut Slots<'_>,
+    memories: &mut Memories<'_>,
     output: &mut [u32],
 ) -> [u32; 16]
-    requires { Ready kernel instructions.now delays.now bases.now control.old spills.old area.old cursors.old × (Listed (length settings.now) (length held.old) (length cursors.old) kernel steps.now instructions.now Sample kernel.control kernel.sample × Heard flag t input.now network.now output.old) }
-    ensures { (n : ℕ) → running (machine result control.new spills.new (memories held.new area.new cursors.new) 0 (n + kernel.sample)) output.new ≡ hushed (emit (sample_done (setup (line_lengths delays.now) flag (code_of kernel steps.now instructions.now) (signals settings.now input.now network.now)) (machine registers control.old spills.old (memories held.old area.old cursors.old) 0 n) t) output.old t) }
+    requires ready { IsReady setup.now.program slots.old memories.old }
+    requires listed { SamplesListed setup.now memories.old }
+    requires heard { Heard setup.now.flag t setup.now.signals.input.now setup.now.signals.network.now output.old }
+    ensures done { (n : ℕ) → running (the_machine result slots.new memories.new 0 (n + setup.now.program.code.kernel.sample)) output.new ≡ hushed (emit (sample_done (the_setup setup.now) (the_machine registers slots.old memories.old 0 n) t) output.old t) }
+    ensures same_slots { KeepsSlots slots.old slots.new }
+    ensures same_tables { KeepsTables memories.old memories.new }
 {
-    let mut word: u32 = NO_OUTPUT;
-    let first = lines::place(kernel.control);
-    let count = lines::place(kernel.sample);
-    let heard = memory::signals::network_word(flag, network, t);
+    let kernel = setup.program.code.kernel;
+    let given = setup.signals.given(setup.flag, t);
+    let mut word = NO_OUTPUT;
     let next = steps::run_steps(
         registers,
-        first,
-        count,
+        kernel.control as usize,
+        kernel.sample as usize,
         Phase::Sample,
-        kernel,
-        input[t],
-        heard,
-        steps,
-        instructions,
-        settings,
-        delays,
-        bases,
-        control,
-        spills,
-        held,
-        area,
-        cursors,
+        &given,
+        &setup.program,
+        slots,
+        memories,
         &mut word,
     );
     output[t] = word;
@@ -72,149 +64,83 @@ fn sample(
 fn samples(
     registers: [u32; 16],
     count: usize,
-    flag: u32,
-    kernel: Kernel,
-    steps: &[u32],
-    instructions: &[u32],
-    settings: &[u32],
-    input: &[u32],
-    network: &[u32],
-    delays: &[u32],
-    bases: &[u32; 4096],
-    control: &mut [u32],
-    spills: &mut [u32],
-    held: &mut [u32],
-    area: &mut [u32],
-    cursors: &mut [u32],
+    setup: &Setup<'_>,
+    slots: &mut Slots<'_>,
+    memories: &mut Memories<'_>,
     output: &mut [u32],
 ) -> [u32; 16]
-    requires { Ready kernel instructions.now delays.now bases.now control.old spills.old area.old cursors.old × (Listed (length settings.now) (length held.old) (length cursors.old) kernel steps.now instructions.now Sample kernel.control kernel.sample × Sounding flag count input.now network.now output.old) }
-    ensures { (n : ℕ) → running (machine result control.new spills.new (memories held.new area.new cursors.new) 0 (n + count * kernel.sample)) output.new ≡ hushed (samples_to (setup (line_lengths delays.now) flag (code_of kernel steps.now instructions.now) (signals settings.now input.now network.now)) (running (machine registers control.old spills.old (memories held.old area.old cursors.old) 0 n) output.old) count) }
+    requires ready { IsReady setup.now.program slots.old memories.old }
+    requires listed { SamplesListed setup.now memories.old }
+    requires sounding { Sounding setup.now.flag count setup.now.signals.input.now setup.now.signals.network.now output.old }
+    ensures done { (n : ℕ) → running (the_machine result slots.new memories.new 0 (n + count * setup.now.program.code.kernel.sample)) output.new ≡ hushed (samples_to (the_setup setup.now) (running (the_machine registers slots.old memories.old 0 n) output.old) count) }
+    ensures same_slots { KeepsSlots slots.old slots.new }
+    ensures same_tables { KeepsTables memories.old memories.new }
 {
     let mut r = registers;
-    let mut t: usize = 0;
-    while t < count {
-        let next = sample(
-            r,
-            t,
-            flag,
-            kernel,
-            steps,
-            instructions,
-            settings,
-            input,
-            network,
-            delays,
-            bases,
-            control,
-            spills,
-            held,
-            area,
-            cursors,
-            output,
-        );
+    for t in 0..count {
+        // first a variable: of a call's result that is laid in an array at once no proof is generated
+        let next = sample(r, t, setup, slots, memories, output);
         r = next;
-        t += 1;
     }
     r
 }
 
 // "The step run clears registers, control and spill tables at entry"; "Control steps run once per call".
-fn start(
-    kernel: Kernel,
-    steps: &[u32],
-    instructions: &[u32],
-    settings: &[u32],
-    delays: &[u32],
-    bases: &[u32; 4096],
-    control: &mut [u32],
-    spills: &mut [u32],
-    held: &mut [u32],
-    area: &mut [u32],
-    cursors: &mut [u32],
-) -> [u32; 16]
-    requires { Ready kernel instructions.now delays.now bases.now control.old spills.old area.old cursors.old × Listed (length settings.now) (length held.old) (length cursors.old) kernel steps.now instructions.now Control 0 kernel.control }
-    ensures { (flag : ℕ) (input network : List ℕ) → machine result control.new spills.new (memories held.new area.new cursors.new) 0 kernel.control ≡ with_output (control_done (setup (line_lengths delays.now) flag (code_of kernel steps.now instructions.now) (signals settings.now input network)) (cleared (length control.old) (length spills.old) (memories held.old area.old cursors.old))) 0 }
+fn start(setup: &Setup<'_>, slots: &mut Slots<'_>, memories: &mut Memories<'_>) -> [u32; 16]
+    requires ready { IsReady setup.now.program slots.old memories.old }
+    requires listed { ControlListed setup.now memories.old }
+    ensures done { the_machine result slots.new memories.new 0 setup.now.program.code.kernel.control ≡ with_output (control_done (the_setup setup.now) (begun slots.old memories.old)) 0 }
+    ensures same_slots { KeepsSlots slots.old slots.new }
+    ensures same_tables { KeepsTables memories.old memories.new }
 {
-    tables::zero(control);
-    tables::zero(spills);
-    let mut word: u32 = NO_OUTPUT;
-    let registers = [0u32; 16];
-    let count = lines::place(kernel.control);
+    slots.control.fill(0);
+    slots.spills.fill(0);
+    let kernel = setup.program.code.kernel;
+    let given = Given {
+        audio: 0,
+        network: 0,
+        settings: setup.signals.settings,
+    };
+    let mut word = NO_OUTPUT;
     steps::run_steps(
-        registers,
+        [0; 16],
         0,
-        count,
+        kernel.control as usize,
         Phase::Control,
-        kernel,
-        0,
-        0,
-        steps,
-        instructions,
-        settings,
-        delays,
-        bases,
-        control,
-        spills,
-        held,
-        area,
-        cursors,
+        &given,
+        &setup.program,
+        slots,
+        memories,
         &mut word,
     )
 }
 
 // The run of so many samples: the control steps, then the samples.
-pub fn play(
+pub fn play<'a>(
     count: usize,
-    flag: u32,
-    kernel: Kernel,
-    steps: &[u32],
-    instructions: &[u32],
-    settings: &[u32],
-    input: &[u32],
-    network: &[u32],
-    delays: &[u32],
-    control: &mut [u32],
-    spills: &mut [u32],
-    held: &mut [u32],
-    area: &mut [u32],
-    cursors: &mut [u32],
+    block: &Block<'a>,
+    code: &Code<'a>,
+    signals: &Signals<'a>,
+    slots: &mut Slots<'_>,
+    memories: &mut Memories<'_>,
     output: &mut [u32],
 ) -> [u32; 16]
-    requires { Playable flag count (length settings.now) (length held.old) kernel steps.now instructions.now delays.now control.old spills.old area.old cursors.old input.now network.now output.old }
-    ensures { tables [] control.new spills.new (rendered output.new (memories held.new area.new cursors.new)) result ≡ tables_of [] (run_for (setup (line_lengths delays.now) flag (code_of kernel steps.now instructions.now) (signals settings.now input.now network.now)) (tables [] control.old spills.old (rendered output.old (memories held.old area.old cursors.old)) []) count) }
+    requires { IsPlayable count block.now code.now signals.now slots.old memories.old output.old }
+    ensures done { the_tables [] slots.new memories.new output.new result ≡ tables_of [] (run_for (setup_for block.now code.now signals.now) (the_tables [] slots.old memories.old output.old []) count) }
+    ensures same_slots { KeepsSlots slots.old slots.new }
+    ensures same_tables { KeepsTables memories.old memories.new }
 {
+    let delays = block.delays;
     let bases = lines::line_bases(delays);
-    let registers = start(
-        kernel,
-        steps,
-        instructions,
-        settings,
+    let lines = Lines {
         delays,
-        &bases,
-        control,
-        spills,
-        held,
-        area,
-        cursors,
-    );
-    samples(
-        registers,
-        count,
-        flag,
-        kernel,
-        steps,
-        instructions,
-        settings,
-        input,
-        network,
-        delays,
-        &bases,
-        control,
-        spills,
-        held,
-        area,
-        cursors,
-        output,
-    )
+        bases: &bases,
+    };
+    let setup = Setup {
+        program: Program { code: *code, lines },
+        flag: block.header.network,
+        signals: *signals,
+    };
+    let registers = start(&setup, slots, memories);
+    samples(registers, count, &setup, slots, memories, output)
 }

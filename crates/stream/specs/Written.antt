@@ -1,5 +1,5 @@
 -- Document 01, "House file": a rendering written block by block is the rendering's file. Definitions, and the theorem. Assumes nothing.
-use Rattle.std.specs.Prelude.{◌≡◌, refl, List, [], ◌∷◌, ◌++◌, ℕ, zero, suc, ◌+◌, ◌*◌, ◌≤◌, ◌<◌, length, take}
+use Rattle.std.specs.Prelude.{◌≡◌, refl, List, [], ◌∷◌, ◌++◌, ℕ, zero, suc, ◌+◌, ◌*◌, ◌≤◌, ◌<◌, length, take, drop}
 use Rattle.std.proofs.Common.{sym, ◌∙◌, arith, take_all}
 use Rattle.std.proofs.lemmas.List.Edits.{sets}
 use Rattle.tables.specs.Parts.{part}
@@ -54,6 +54,9 @@ pub padded_is : (words : List ℕ) → length words ≤ 124 → copied words (ze
 padded_is words h =
     let l = zeros_length 124 in
     copied_is words (zeros 124) ∙ rw (drop_zeros (length words) 124, take_all (length (zeros 124)) words (omega arith))
+
+pub slice_padded : (words m : List ℕ) → length words ≤ 124 → m ≡ words → m ++ drop (length words) (zeros 124) ≡ padded words
+slice_padded words m h e = rw (e, drop_zeros (length words) 124)
 
 -- a block of the engine's kind, from its kind k and its payload p as the code has them
 pub block_written : (engine : Engine) (number : ℕ) (words l t p : List ℕ) (k : ℕ) → k ≡ kind_of engine → p ≡ padded words

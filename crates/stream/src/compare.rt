@@ -5,24 +5,20 @@ ghost use Rattle.stream.specs.Compare.{first_of, samples_in, first_place, words_
 use house::payload;
 
 // How many samples so many blocks hold.
+#[tactic(auto, unfolding(crate::specs::Compare::samples_in))]
 pub fn samples_in(blocks: usize) -> usize
     requires { blocks ≤ 1099511627776 }
     ensures { result ≡ samples_in blocks }
 {
-    if blocks == 0 {
-        return 0;
-    }
-    124 * blocks - 1
+    (124 * blocks).saturating_sub(1)
 }
 
 // The first payload word that is a sample, in the block behind so many.
+#[tactic(auto, unfolding(crate::specs::Compare::first_place))]
 pub fn first_place(blocks: usize) -> usize
     ensures { result ≡ first_place blocks }
 {
-    if blocks == 0 {
-        return 1;
-    }
-    0
+    if blocks == 0 { 1 } else { 0 }
 }
 
 // How many payload words from `from` on are equal in two blocks, before the first that differs.
@@ -30,25 +26,24 @@ pub fn equal_words(a: &[u8], b: &[u8], from: usize) -> usize
     requires { (length a.now ≡ 512) × (length b.now ≡ 512) × (from ≤ 1) }
     ensures { result ≡ first_of (words_differ a.now b.now from) (124 - from) }
 {
-    let count = 124 - from;
-    let mut i: usize = 0;
-    while i < count {
+    for i in 0..124 - from {
         let place = from + i;
         if payload::first_word(a, place) != payload::first_word(b, place) {
             return i;
         }
-        i += 1;
     }
-    count
+    124 - from
 }
 
 // A payload word of a block, 0 past its last.
+#[tactic(auto, unfolding(crate::specs::Compare::word_or))]
 pub fn word_or(block: &[u8], place: usize) -> u32
     requires { length block.now ≡ 512 }
     ensures { result ≡ word_or block.now place }
 {
     if place < 124 {
-        return payload::first_word(block, place);
+        payload::first_word(block, place)
+    } else {
+        0
     }
-    0
 }

@@ -3,103 +3,128 @@
 #![tactic(auto)]
 
 mod compare;
-mod last;
 
 ghost use Rattle.std.specs.Prelude.{◌≡◌, List, [], ◌++◌, ℕ, ◌+◌, ◌*◌, ◌≤◌, ◌<◌, min, length};
 ghost use Rattle.std.proofs.lemmas.List.Edits.{sets};
+ghost use Rattle.answers.specs.Numbers.{answer_of};
 ghost use Rattle.house.specs.Bytes.{bytes_of};
 ghost use Rattle.house.specs.File.{padded, block_words};
-ghost use Rattle.house.specs.Frame.{graph_kind, step_kind, frame_answer, payload_length, payload_word};
-ghost use Rattle.house.specs.Payload.{kind_of, rendering_in};
-ghost use Rattle.stream.specs.Compare.{difference_at, difference, samples_in, comparison_of, pair_more};
-ghost use Rattle.stream.specs.Stream.{fault_of, framed_of, one_more, answer_in, payload_words, rendering_frame, rendering_answer_in};
+ghost use Rattle.house.specs.Payload.{kind_of};
 
-use house::{Engine, blocks, frame};
+use answers::Refusal;
+use house::frame::{self, Kinds};
+use house::{Engine, blocks};
 
-// What is kept of the whole blocks seen so far: their count, the first one's kind, the used count of the last, and the number of the first fault,
-// 20 or 21, or 0.
-#[derive(Clone, Copy)]
+// What is kept of the whole blocks seen so far: their count, the first one's kind, the used count of the last, and how they are judged, the last one as
+// the last of the file.
+#[derive(Clone, Copy, Debug, PartialEq, Eq)]
 pub struct Framed {
     pub blocks: usize,
     pub kind: u32,
     pub used: u32,
-    pub fault: u32,
+    pub judged: Result<(), Refusal>,
 }
 
-// Before the first block.
-pub fn nothing() -> Framed
-    ensures { (low high : ℕ) → result ≡ framed_of low high [] }
-{
-    Framed {
-        blocks: 0,
-        kind: 0,
-        used: 0,
-        fault: 0,
-    }
-}
+impl Framed {
+    ghost use Rattle.house.specs.Frame.{graph_kind, step_kind, frame_answer, payload_length, payload_word};
+    ghost use Rattle.stream.specs.Stream.{kept, fault_of, framed_of, first_kind, short_before, next_fault, one_more, answer_in, payload_words, rendering_frame, rendering_answer_in};
 
-// One block more, for a reader that takes the kinds from `low` to `high`. The bound on the count leaves room for the count of payload words.
-pub fn next(framed: Framed, block: &[u8], low: u32, high: u32) -> Framed
-    requires { (length block.now ≡ 512) × (framed.blocks < 1099511627776) }
-    ensures { (result ≡ one_more low high framed block.now)
-        × ((bytes : List ℕ) → length bytes ≡ 512 * framed.blocks → framed ≡ framed_of low high bytes → result ≡ framed_of low high (bytes ++ block.now)) }
-{
-    let blocks = framed.blocks + 1;
-    let kind = last::first_kind(framed, block);
-    let used = frame::block_word(block, 0, 2);
-    let fault = last::next_fault(framed, kind, block, low, high);
-    Framed {
-        blocks,
-        kind,
-        used,
-        fault,
+    // Before the first block.
+    pub fn new() -> Framed
+        ensures { (low high : ℕ) → kept result ≡ framed_of low high [] }
+    {
+        Framed {
+            blocks: 0,
+            kind: 0,
+            used: 0,
+            judged: Ok(()),
+        }
     }
-}
 
-// The number of the frame's answer, 0 where it is accepted: `left` bytes are left behind the last whole block.
-pub fn answer(framed: Framed, left: usize) -> u32
-    ensures { (result ≡ answer_in framed left)
-        × ((low high : ℕ) (bytes rest : List ℕ) → length bytes ≡ 512 * framed.blocks → framed ≡ framed_of low high bytes → length rest ≡ left → left < 512
-        → result ≡ fault_of (frame_answer low high (bytes ++ rest))) }
-{
-    if framed.blocks == 0 {
-        return 21;
+    // The kind of the file's first block, which may be this one.
+    #[tactic(auto, unfolding(crate::specs::Stream::first_kind))]
+    fn first_kind(self, block: &[u8]) -> u32
+        requires { length block.now ≡ 512 }
+        ensures { result ≡ first_kind (kept self) block.now }
+    {
+        if self.blocks == 0 {
+            frame::block_word(block, 0, 0)
+        } else {
+            self.kind
+        }
     }
-    if left != 0 {
-        return 21;
-    }
-    framed.fault
-}
 
-// How many words the payload has.
-pub fn payload_words(framed: Framed) -> usize
-    requires { framed.blocks ≤ 1099511627776 }
-    ensures { (result ≡ payload_words framed)
-        × ((low high : ℕ) (bytes : List ℕ) → framed ≡ framed_of low high bytes → result ≡ payload_length bytes) }
-{
-    let used = framed.used as usize;
-    if framed.blocks == 0 {
-        return used;
+    // Whether the block before is not the last any more, and does not use all its payload words.
+    #[tactic(auto, unfolding(crate::specs::Stream::short_before))]
+    fn short_before(self) -> bool
+        ensures { result ≡ short_before (kept self) }
+    {
+        self.blocks != 0 && self.used != 124
     }
-    124 * (framed.blocks - 1) + used
-}
 
-// The number of the answer to a rendering's frame, 0 where it is accepted: `samples` is the first word of its payload.
-pub fn rendering_answer(framed: Framed, left: usize, samples: u32) -> u32
-    requires { framed.blocks ≤ 1099511627776 }
-    ensures { (result ≡ rendering_answer_in framed left samples)
-        × ((bytes rest : List ℕ) → length bytes ≡ 512 * framed.blocks → framed ≡ framed_of graph_kind step_kind bytes → length rest ≡ left → left < 512
-        → samples ≡ payload_word bytes 0 → result ≡ fault_of (rendering_frame (bytes ++ rest))) }
-{
-    let fault = answer(framed, left);
-    if fault != 0 {
-        return fault;
+    // The first fault with this block: the one so far, else 21 for the block before, else the block's own.
+    #[tactic(auto, using(crate::specs::Ways::judged_kept, crate::specs::Ways::judged_before, crate::specs::Ways::judged_own))]
+    fn judged_with(self, first: u32, block: &[u8], kinds: Kinds) -> Result<(), Refusal>
+        requires { length block.now ≡ 512 }
+        ensures { fault_of (answer_of result) ≡ next_fault kinds.low kinds.high (kept self) first block.now }
+    {
+        self.judged?;
+        if self.short_before() {
+            return Err(Refusal::BadFrame);
+        }
+        frame::judge_block(block, 0, self.blocks, first, kinds)
     }
-    let count = samples as usize;
-    if payload_words(framed) != 1 + count {
-        return 21;
+
+    // One block more, for a reader that takes these kinds. The bound on the count leaves room for the count of payload words.
+    pub fn next(self, block: &[u8], kinds: Kinds) -> Framed
+        requires { (length block.now ≡ 512) × (self.blocks < 1099511627776) }
+        ensures kept { kept result ≡ one_more kinds.low kinds.high (kept self) block.now }
+        ensures of_bytes { (bytes : List ℕ) → length bytes ≡ 512 * self.blocks → kept self ≡ framed_of kinds.low kinds.high bytes
+            → kept result ≡ framed_of kinds.low kinds.high (bytes ++ block.now) }
+    {
+        let kind = self.first_kind(block);
+        Framed {
+            blocks: self.blocks + 1,
+            kind,
+            used: frame::block_word(block, 0, 2),
+            judged: self.judged_with(kind, block, kinds),
+        }
     }
-    0
+
+    // The frame's answer: `left` bytes are left behind the last whole block.
+    pub fn answer(self, left: usize) -> Result<(), Refusal>
+        ensures number { fault_of (answer_of result) ≡ answer_in (kept self) left }
+        ensures of_bytes { (low high : ℕ) (bytes rest : List ℕ) → length bytes ≡ 512 * self.blocks → kept self ≡ framed_of low high bytes → length rest ≡ left
+            → left < 512 → fault_of (answer_of result) ≡ fault_of (frame_answer low high (bytes ++ rest)) }
+    {
+        if self.blocks == 0 || left != 0 {
+            return Err(Refusal::BadFrame);
+        }
+        self.judged
+    }
+
+    // How many words the payload has.
+    pub fn payload_words(self) -> usize
+        requires { self.blocks ≤ 1099511627776 }
+        ensures kept { result ≡ payload_words (kept self) }
+        ensures of_bytes { (low high : ℕ) (bytes : List ℕ) → kept self ≡ framed_of low high bytes → result ≡ payload_length bytes }
+    {
+        124 * self.blocks.saturating_sub(1) + self.used as usize
+    }
+
+    // The answer to a rendering's frame: `samples` is the first word of its payload.
+    pub fn rendering_answer(self, left: usize, samples: u32) -> Result<(), Refusal>
+        requires { self.blocks ≤ 1099511627776 }
+        ensures number { fault_of (answer_of result) ≡ rendering_answer_in (kept self) left samples }
+        ensures of_bytes { (bytes rest : List ℕ) → length bytes ≡ 512 * self.blocks → kept self ≡ framed_of graph_kind step_kind bytes → length rest ≡ left
+            → left < 512 → samples ≡ payload_word bytes 0 → fault_of (answer_of result) ≡ fault_of (rendering_frame (bytes ++ rest)) }
+    {
+        self.answer(left)?;
+        if self.payload_words() != 1 + samples as usize {
+            return Err(Refusal::BadFrame);
+        }
+        Ok(())
+    }
 }
 
 // A block's payload: the words, and zeros behind them.
@@ -108,7 +133,7 @@ fn padded(words: &[u32]) -> [u32; 124]
     ensures { result ≡ padded words.now }
 {
     let mut payload = [0u32; 124];
-    tables::copy(words, &mut payload);
+    payload[..words.len()].copy_from_slice(words);
     payload
 }
 
@@ -119,12 +144,12 @@ pub fn rendering_block(engine: Engine, number: u32, words: &[u32], bytes: &mut [
 {
     let used = words.len() as u32;
     let payload = padded(words);
-    blocks::put_block(bytes, 0, house::kind_of(engine), number, used, payload);
+    blocks::put_block(bytes, 0, u32::from(engine), number, used, payload);
 }
 
 // What is kept of a comparison of two renderings after equally many blocks of each: how many samples are equal before the first that differs, and the two
 // words of that one, 0 while there is none.
-#[derive(Clone, Copy)]
+#[derive(Clone, Copy, Debug, PartialEq, Eq)]
 pub struct Comparison {
     pub pairs: usize,
     pub equal: usize,
@@ -133,84 +158,71 @@ pub struct Comparison {
 }
 
 // How two renderings differ: not at all, in a sample, or in that the shorter one ends.
-#[derive(Clone, Copy)]
+#[derive(Clone, Copy, Debug, PartialEq, Eq)]
 pub enum Difference {
     Nothing,
     Sample { place: usize, one: u32, two: u32 },
     Ends { place: usize },
 }
 
-// Before the first pair of blocks.
-pub fn no_pair() -> Comparison
-    ensures { result ≡ comparison_of [] [] }
-{
-    Comparison {
-        pairs: 0,
-        equal: 0,
-        one: 0,
-        two: 0,
-    }
-}
+impl Comparison {
+    ghost use Rattle.house.specs.Payload.{rendering_in};
+    ghost use Rattle.stream.specs.Compare.{difference_at, difference, samples_in, comparison_of, pair_more};
 
-// One pair of blocks more.
-pub fn compare_next(comparison: Comparison, a: &[u8], b: &[u8]) -> Comparison
-    requires { (length a.now ≡ 512) × (length b.now ≡ 512) × (comparison.pairs < 1099511627776) }
-    ensures { (result ≡ pair_more comparison a.now b.now)
-        × ((x y : List ℕ) → length x ≡ 512 * comparison.pairs → length y ≡ 512 * comparison.pairs → comparison ≡ comparison_of x y
-        → result ≡ comparison_of (x ++ a.now) (y ++ b.now)) }
-{
-    let pairs = comparison.pairs + 1;
-    let seen = compare::samples_in(comparison.pairs);
-    if comparison.equal < seen {
-        return Comparison {
+    // Before the first pair of blocks.
+    pub fn new() -> Comparison
+        ensures { result ≡ comparison_of [] [] }
+    {
+        Comparison {
+            pairs: 0,
+            equal: 0,
+            one: 0,
+            two: 0,
+        }
+    }
+
+    // One pair of blocks more.
+    pub fn next(self, a: &[u8], b: &[u8]) -> Comparison
+        requires { (length a.now ≡ 512) × (length b.now ≡ 512) × (self.pairs < 1099511627776) }
+        ensures kept { result ≡ pair_more self a.now b.now }
+        ensures of_bytes { (x y : List ℕ) → length x ≡ 512 * self.pairs → length y ≡ 512 * self.pairs → self ≡ comparison_of x y
+            → result ≡ comparison_of (x ++ a.now) (y ++ b.now) }
+    {
+        let pairs = self.pairs + 1;
+        let seen = compare::samples_in(self.pairs);
+        // No Option of a sample in place of `equal` and the words: `pair_more` is promised of every value, also where `equal` is no first difference.
+        if self.equal < seen {
+            return Comparison { pairs, ..self };
+        }
+        let from = compare::first_place(self.pairs);
+        let more = compare::equal_words(a, b, from);
+        let place = from + more;
+        Comparison {
             pairs,
-            equal: comparison.equal,
-            one: comparison.one,
-            two: comparison.two,
-        };
+            equal: seen + more,
+            one: compare::word_or(a, place),
+            two: compare::word_or(b, place),
+        }
     }
-    let from = compare::first_place(comparison.pairs);
-    let more = compare::equal_words(a, b, from);
-    let place = from + more;
-    let equal = seen + more;
-    let one = compare::word_or(a, place);
-    let two = compare::word_or(b, place);
-    Comparison {
-        pairs,
-        equal,
-        one,
-        two,
-    }
-}
 
-// The smaller of two numbers.
-fn smaller(a: u32, b: u32) -> u32
-    ensures { result ≡ min a b }
-{
-    if a < b {
-        return a;
+    // What the comparison tells at the end, of renderings with so many samples. The pairs must hold those that both have: all blocks of one file do.
+    pub fn end(self, first: u32, second: u32) -> Difference
+        ensures kept { result ≡ difference_at first second self.equal self.one self.two }
+        ensures of_bytes { (x y u v : List ℕ) → length x ≡ 512 * self.pairs → length y ≡ 512 * self.pairs → self ≡ comparison_of x y
+            → first ≡ (rendering_in (x ++ u)).samples → second ≡ (rendering_in (y ++ v)).samples → min first second ≤ samples_in self.pairs
+            → result ≡ difference (x ++ u) (y ++ v) }
+    {
+        let end = first.min(second) as usize;
+        if self.equal < end {
+            return Difference::Sample {
+                place: self.equal,
+                one: self.one,
+                two: self.two,
+            };
+        }
+        if first == second {
+            return Difference::Nothing;
+        }
+        Difference::Ends { place: end }
     }
-    b
-}
-
-// What the comparison tells at the end, of renderings with so many samples. The pairs must hold those that both have: all blocks of one file do.
-pub fn compare_end(comparison: Comparison, first: u32, second: u32) -> Difference
-    ensures { (result ≡ difference_at first second comparison.equal comparison.one comparison.two)
-        × ((x y u v : List ℕ) → length x ≡ 512 * comparison.pairs → length y ≡ 512 * comparison.pairs → comparison ≡ comparison_of x y
-        → first ≡ (rendering_in (x ++ u)).samples → second ≡ (rendering_in (y ++ v)).samples → min first second ≤ samples_in comparison.pairs
-        → result ≡ difference (x ++ u) (y ++ v)) }
-{
-    let least = smaller(first, second);
-    let end = least as usize;
-    if comparison.equal < end {
-        return Difference::Sample {
-            place: comparison.equal,
-            one: comparison.one,
-            two: comparison.two,
-        };
-    }
-    if first == second {
-        return Difference::Nothing;
-    }
-    Difference::Ends { place: end }
 }

@@ -145,6 +145,14 @@ copied_end from to i h q = go (dec_lt i (length from))
         ∙ (sets_append to 0 i (take i from) (drop i from) (omega (arith, length-take-le i from h))
         ∙ ap (sets to 0) (take-append-drop i from))
 
+-- the first words of `from`, as many as both have, before what `to` has behind them
+pub copied_first : (from to : List ℕ) (n : ℕ) → n ≡ min (length from) (length to) → take n from ++ drop n to ≡ copied from to
+unfolding copied
+copied_first from to n e =
+    let k : length (take n from) ≡ n = length-take-le n from (omega arith) in
+    let s : sets to 0 (take n from) ≡ take n from ++ drop n to = sets-eq (take n from) to 0 (omega arith) ∙ rw (k, zero-add n) in
+    sym s ∙ copied_end from to n (omega arith) (omega arith)
+
 -- read at once: as many words of `from` as `to` has room for, then what `to` has behind them
 pub copied_is : (from to : List ℕ) → copied from to ≡ take (length to) from ++ drop (length from) to
 unfolding copied

@@ -4,7 +4,7 @@ use Rattle.std.specs.Prelude.{◌≡◌, ℕ, zero, suc, ◌+◌, ◌-◌, ◌/�
 use Rattle.std.proofs.Common.{sym, ap, subst, ◌∙◌, arith, ltb-true, ltb-false, le-leb}
 use Rattle.std.proofs.lemmas.Bool.{lt-leb}
 use Rattle.std.specs.Float.Ieee as Ieee
-use Rattle.std.specs.Float.{nan, inf, fin, binary32}
+use Rattle.std.specs.Float.{nan, inf, fin, binary32, float_is_finite}
 use Rattle.std.specs.Float.Ieee.{nan_bits, of_fields, of_bits, to_bits, odd, lt, ne, neg}
 use Rattle.std.specs.Float.Ieee.Scale.{finite}
 use Rattle.std.specs.Float.Ieee.Bits.{nan_bits_is, nan_bits_above, to_bits-lt}
@@ -144,6 +144,13 @@ unfolding lt neg of_bits
 finite_below nan e = refl
 finite_below (inf s) e = refl
 finite_below (fin s m k) e = absurd (subst T e tt)
+
+-- std's test is the logic's
+pub finite_float : (x : Float) → float_is_finite x ≡ finite x
+unfolding float_is_finite
+finite_float nan = refl
+finite_float (inf s) = refl
+finite_float (fin s m k) = refl
 
 -- ---- neg and abs, which act on bits, are the floats' too: at a NaN both sides are NaN
 

@@ -1,10 +1,13 @@
 // Operations on words that hold f32 bits (document 01, module 1), and the tests of a parameter's
 // words. Every function has its result for every word, NaN patterns included.
-#![tactic(auto)]
+#![tactic(auto, using(crate::specs::Laws::finite_float, crate::specs::Laws::nan_above, crate::specs::Laws::added_nan, crate::specs::Laws::subtracted_nan, crate::specs::Laws::multiplied_nan, crate::specs::Laws::left_number, crate::specs::Laws::right_number), unfolding(crate::specs::Operations::added, crate::specs::Operations::subtracted, crate::specs::Operations::multiplied, crate::specs::Operations::float_of, crate::specs::Operations::word_of, crate::specs::Operations::is_less, crate::specs::Operations::chosen, crate::specs::Operations::lesser, crate::specs::Operations::greater, crate::specs::Operations::negated, crate::specs::Operations::absolute, crate::specs::Operations::wrapping_difference, crate::specs::Operations::operate, crate::specs::Operations::is_finite, crate::specs::Operations::within, crate::specs::Operations::valid_span, crate::specs::Operations::in_range, crate::specs::Operations::span_is_valid))]
 
 ghost use Rattle.std.specs.Prelude.{◌≡◌, ◌||◌};
 ghost use Rattle.std.specs.Float.Ieee.Scale.{finite};
-ghost use Rattle.words.specs.Operations.{float_of, word_of, added, subtracted, multiplied, is_nan, is_less, chosen, lesser, greater, negated, absolute, wrapping_difference, operate, is_finite, within, valid_span, in_range, span_is_valid};
+ghost use Rattle.words.specs.Operations.{added, subtracted, multiplied, is_nan, is_less, chosen, lesser, greater, negated, absolute, wrapping_difference, operate, is_finite, within, valid_span, in_range, span_is_valid};
+
+// Every NaN pattern is read as the one NaN, and NaN is written as one word, 0x7fc00000.
+use std::num::{f32_from_bits_with_nan as float_of, f32_to_bits_with_nan as word_of};
 
 const SIGN: u32 = 0x8000_0000;
 
@@ -18,23 +21,12 @@ fn is_nan(word: u32) -> bool
     INFINITY < word % SIGN
 }
 
+// Asked before an operation, not left to its result: both runs do this for most nodes and steps, and a run that reads NaN words as floats takes a third longer
+// (bench/run).
 fn has_nan(lhs: u32, rhs: u32) -> bool
     ensures { result ≡ (is_nan lhs || is_nan rhs) }
 {
-    if is_nan(lhs) {
-        return true;
-    }
-    is_nan(rhs)
-}
-
-// A processor's NaN has whatever sign and payload; ours has one word.
-fn to_word(x: f32) -> u32
-    ensures { result ≡ word_of x }
-{
-    if x != x {
-        return NAN;
-    }
-    f32::to_bits(x)
+    is_nan(lhs) || is_nan(rhs)
 }
 
 pub fn add(lhs: u32, rhs: u32) -> u32
@@ -43,9 +35,7 @@ pub fn add(lhs: u32, rhs: u32) -> u32
     if has_nan(lhs, rhs) {
         return NAN;
     }
-    let left = f32::from_bits(lhs);
-    let right = f32::from_bits(rhs);
-    to_word(left + right)
+    word_of(f32::from_bits(lhs) + f32::from_bits(rhs))
 }
 
 pub fn sub(lhs: u32, rhs: u32) -> u32
@@ -54,9 +44,7 @@ pub fn sub(lhs: u32, rhs: u32) -> u32
     if has_nan(lhs, rhs) {
         return NAN;
     }
-    let left = f32::from_bits(lhs);
-    let right = f32::from_bits(rhs);
-    to_word(left - right)
+    word_of(f32::from_bits(lhs) - f32::from_bits(rhs))
 }
 
 pub fn mul(lhs: u32, rhs: u32) -> u32
@@ -65,25 +53,13 @@ pub fn mul(lhs: u32, rhs: u32) -> u32
     if has_nan(lhs, rhs) {
         return NAN;
     }
-    let left = f32::from_bits(lhs);
-    let right = f32::from_bits(rhs);
-    to_word(left * right)
-}
-
-// For the comparisons, which are defined at a NaN too: 0 / 0 is one, and `f32::from_bits` takes none.
-fn to_float(word: u32) -> f32
-    ensures { result ≡ float_of word }
-{
-    if is_nan(word) {
-        return 0.0 / 0.0;
-    }
-    f32::from_bits(word)
+    word_of(f32::from_bits(lhs) * f32::from_bits(rhs))
 }
 
 fn is_less(lhs: u32, rhs: u32) -> bool
     ensures { result ≡ is_less lhs rhs }
 {
-    to_float(lhs) < to_float(rhs)
+    float_of(lhs) < float_of(rhs)
 }
 
 // What min and max share; `leads`: lhs is less, or greater. An operand's own bits are handed on.
@@ -96,10 +72,7 @@ fn choose(leads: bool, lhs: u32, rhs: u32) -> u32
     if is_nan(rhs) {
         return lhs;
     }
-    if leads {
-        return lhs;
-    }
-    rhs
+    if leads { lhs } else { rhs }
 }
 
 pub fn min(lhs: u32, rhs: u32) -> u32
@@ -114,13 +87,15 @@ pub fn max(lhs: u32, rhs: u32) -> u32
     choose(is_less(rhs, lhs), lhs, rhs)
 }
 
+// The sign by arithmetic on words, here and in abs: the definitions `negated` and `absolute`, which negated_float and absolute_float speak of.
 pub fn neg(word: u32) -> u32
     ensures { result ≡ negated word }
 {
     if word < SIGN {
-        return word + SIGN;
+        word + SIGN
+    } else {
+        word - SIGN
     }
-    word - SIGN
 }
 
 pub fn abs(word: u32) -> u32
@@ -132,9 +107,10 @@ pub fn abs(word: u32) -> u32
 pub fn integer_sub(lhs: u32, rhs: u32) -> u32
     ensures { result ≡ wrapping_difference lhs rhs }
 {
-    std::num::wrapping_sub_u32(lhs, rhs)
+    lhs.wrapping_sub(rhs)
 }
 
+// The code is a word of a node's record (document 01, "What crosses the boundary"); the enum of kinds is of the crate `block`, which uses this one.
 pub fn operate(code: u32, lhs: u32, rhs: u32) -> u32
     ensures { result ≡ operate code lhs rhs }
 {
@@ -151,61 +127,36 @@ pub fn operate(code: u32, lhs: u32, rhs: u32) -> u32
     }
 }
 
-// Between the infinities, where no NaN is.
-fn is_finite_float(x: f32) -> bool
-    ensures { result ≡ finite x }
-{
-    let infinity = f32::from_bits(INFINITY);
-    if -infinity < x {
-        return x < infinity;
-    }
-    false
-}
-
 pub fn is_finite(word: u32) -> bool
     ensures { result ≡ is_finite word }
 {
-    is_finite_float(to_float(word))
+    float_of(word).is_finite()
 }
 
 fn is_within(min: f32, max: f32, value: f32) -> bool
     ensures { result ≡ within min max value }
 {
-    if !is_finite_float(value) {
-        return false;
-    }
-    if min <= value {
-        return value <= max;
-    }
-    false
+    value.is_finite() && min <= value && value <= max
 }
 
 fn is_valid_span(min: f32, max: f32, default: f32) -> bool
     ensures { result ≡ valid_span min max default }
 {
-    if !is_finite_float(min) {
-        return false;
-    }
-    if !is_finite_float(max) {
-        return false;
-    }
-    if min >= max {
-        return false;
-    }
-    if !is_finite_float(max - min) {
-        return false;
-    }
-    is_within(min, max, default)
+    min.is_finite()
+        && max.is_finite()
+        && !(min >= max)
+        && (max - min).is_finite()
+        && is_within(min, max, default)
 }
 
 pub fn in_range(min: u32, max: u32, value: u32) -> bool
     ensures { result ≡ in_range min max value }
 {
-    is_within(to_float(min), to_float(max), to_float(value))
+    is_within(float_of(min), float_of(max), float_of(value))
 }
 
 pub fn span_is_valid(min: u32, max: u32, default: u32) -> bool
     ensures { result ≡ span_is_valid min max default }
 {
-    is_valid_span(to_float(min), to_float(max), to_float(default))
+    is_valid_span(float_of(min), float_of(max), float_of(default))
 }

@@ -2,8 +2,8 @@
 use Rattle.agree.specs.OrderedCalls.{tests_refuse, calls_follow}
 use Rattle.agree.proofs.checked_run.Goals as goal
 
-pub returns-in-Refused : goal.returns-in-Refused
-returns-in-Refused c = tests_refuse _ _ _ _ _ _ _ c.judge-verdict.ensures _ c.in-Refused.is
+pub returns-in-Err-clause-done : goal.returns-in-Err-clause-done
+returns-in-Err-clause-done c = tests_refuse _ _ _ _ _ _ _ c.judge.ensures _ c.in-Err.is
 
-pub returns : goal.returns
-returns c = calls_follow _ _ _ _ _ _ _ c.judge-verdict.ensures c.in_default.is _ c.check_and_run.ensures
+pub returns-clause-done : goal.returns-clause-done
+returns-clause-done c = calls_follow _ _ _ _ _ _ _ c.judge.ensures c.in_default.is _ c.check_and_run.ensures.done

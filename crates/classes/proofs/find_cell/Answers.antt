@@ -5,49 +5,31 @@ use Rattle.classes.specs.Index.{ready_room, going_start, going_in, going_node, g
 use Rattle.classes.proofs.find_cell.Goals as goal
 
 pub root-cell-requires : goal.root-cell-requires
-root-cell-requires c = (c.requires.0.filled.small, c.requires.1)
+root-cell-requires c = c.requires.filled.small
 
 pub offset_bounds-work-cell : goal.offset_bounds-work-cell
-offset_bounds-work-cell c = rw c.root-cell.ensures (omega (arith, (going_in c.requires.0 (going_start c.requires.0 c.args.code c.args.x c.args.y c.requires.1)).1, c.requires.0.filled.small))
+offset_bounds-work-cell c = rw c.root-cell.ensures (omega (arith, (going_in c.requires (going_start c.requires c.args.keys.code c.args.keys.first c.args.keys.second c.args.keys.listed)).1, c.requires.filled.small))
 
 pub bounds-work-cell : goal.bounds-work-cell
-bounds-work-cell c = rw c.root-cell.ensures (going_in c.requires.0 (going_start c.requires.0 c.args.code c.args.x c.args.y c.requires.1)).0
+bounds-work-cell c = rw c.root-cell.ensures (going_in c.requires (going_start c.requires c.args.keys.code c.args.keys.first c.args.keys.second c.args.keys.listed)).0
 
 pub loop-word-init : goal.loop-word-init
-loop-word-init c = λ r. rw c.root-cell.ensures (going_start r _ _ _ c.requires.1)
-
-pub overflow_cast-node : goal.overflow_cast-node
-overflow_cast-node c = omega (arith, going_node c.requires.0 (c.loop-word.invariant c.requires.0) c.loop-word-test.true)
-
-pub overflow_mul-at : goal.overflow_mul-at
-overflow_mul-at c = omega (arith, going_node c.requires.0 (c.loop-word.invariant c.requires.0) c.loop-word-test.true, c.requires.0.filled.small)
-
-pub overflow_add-at : goal.overflow_add-at
-overflow_add-at c = omega (arith, going_node c.requires.0 (c.loop-word.invariant c.requires.0) c.loop-word-test.true, c.requires.0.filled.small)
+loop-word-init c = λ r. rw c.root-cell.ensures (going_start r _ _ _ c.args.keys.listed)
 
 pub has_keys-requires : goal.has_keys-requires
-has_keys-requires c = omega (arith, going_node c.requires.0 (c.loop-word.invariant c.requires.0) c.loop-word-test.true, ready_room c.requires.0)
+has_keys-requires c = omega (arith, going_node c.requires (c.loop-word.invariant c.requires) c.loop-word-test.true, ready_room c.requires)
 
 pub returns-then-has_keys : goal.returns-then-has_keys
-returns-then-has_keys c = going_hit c.requires.0 (c.loop-word.invariant c.requires.0) c.loop-word-test.true (sym c.has_keys.ensures ∙ c.if-has_keys.true)
-
-pub overflow_add-cell : goal.overflow_add-cell
-overflow_add-cell c = omega (arith, going_node c.requires.0 (c.loop-word.invariant c.requires.0) c.loop-word-test.true, c.requires.0.filled.small)
-
-pub overflow_add-cell-in-loop-word : goal.overflow_add-cell-in-loop-word
-overflow_add-cell-in-loop-word c = omega (arith, going_node c.requires.0 (c.loop-word.invariant c.requires.0) c.loop-word-test.true, c.requires.0.filled.small)
-
-pub offset_bounds-work-cell-in-loop-word : goal.offset_bounds-work-cell-in-loop-word
-offset_bounds-work-cell-in-loop-word c = omega (arith, going_node c.requires.0 (c.loop-word.invariant c.requires.0) c.loop-word-test.true, c.requires.0.filled.small)
+returns-then-has_keys c = going_hit c.requires (c.loop-word.invariant c.requires) c.loop-word-test.true (sym c.has_keys.ensures ∙ c.if-has_keys.true)
 
 pub bounds-work-cell-in-loop-word : goal.bounds-work-cell-in-loop-word
-bounds-work-cell-in-loop-word c = omega (arith, going_node c.requires.0 (c.loop-word.invariant c.requires.0) c.loop-word-test.true, ready_room c.requires.0)
+bounds-work-cell-in-loop-word c = omega (arith, going_node c.requires (c.loop-word.invariant c.requires) c.loop-word-test.true, ready_room c.requires)
 
 pub loop-word-smaller : goal.loop-word-smaller
-loop-word-smaller c = going_less c.requires.0 (c.loop-word.invariant c.requires.0) c.loop-word-test.true
+loop-word-smaller c = going_less c.requires (c.loop-word.invariant c.requires) c.loop-word-test.true
 
 pub loop-word-preserved : goal.loop-word-preserved
 loop-word-preserved c = λ r. going_turn r (c.loop-word.invariant r) c.loop-word-test.true (sym c.has_keys.ensures ∙ c.if-has_keys.false)
 
 pub returns : goal.returns
-returns c = going_end c.requires.0 (c.loop-word.invariant c.requires.0) c.loop-word-test.false
+returns c = going_end c.requires (c.loop-word.invariant c.requires) c.loop-word-test.false

@@ -1,13 +1,13 @@
 -- `classes::has_keys` meets its contract. Assumes nothing.
-use borrow.Author.Tests.{eq-eqb, ne_eqb}
+use borrow.Author.Rules.{rules}
 use Rattle.tables.specs.Tests.{◌&◌}
 use Rattle.classes.specs.Index.{keys_at}
 use Rattle.classes.proofs.has_keys.Goals as goal
 
 pub returns-then-work-at : goal.returns-then-work-at
 unfolding keys_at ◌&◌
-returns-then-work-at c = rw (ne_eqb _ _ c.if-work-at.true)
+returns-then-work-at c = search rules
 
-pub returns : goal.returns
+pub returns-else-work-at : goal.returns-else-work-at
 unfolding keys_at ◌&◌
-returns c = rw (eq-eqb _ _ c.if-work-at.false)
+returns-else-work-at c = search rules

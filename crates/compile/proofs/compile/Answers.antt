@@ -2,11 +2,8 @@
 use Rattle.compile.specs.CallLaws.{refused_call, passed_call}
 use Rattle.compile.proofs.compile.Goals as goal
 
-pub returns-in-Refused : goal.returns-in-Refused
-returns-in-Refused c = refused_call _ _ _ _ _ c.judge-verdict.ensures c.in-Refused.is
+pub returns-in_err-judge : goal.returns-in_err-judge
+returns-in_err-judge c = refused_call _ _ _ _ _ c.judge.ensures c.in_err-judge.was c.from_residual.ensures.1
 
 pub build-requires : goal.build-requires
-build-requires c = passed_call _ _ _ c.judge-verdict.ensures c.in_default.is
-
-pub returns : goal.returns
-returns c = c.build.ensures
+build-requires c = passed_call _ _ _ c.judge.ensures c.in_ok-judge.was

@@ -1,15 +1,8 @@
--- `executed`: the words read are the instruction's, and the arm says which of the two cases they are. Assumes nothing.
+-- `executed`: words that are no instruction are refused, and change nothing. Written out, so that an edit that changes something breaks it. Assumes nothing.
 use mathlib.Core.Path.{sym, ap, ◌∙◌}
-use Rattle.answers.specs.declared.Verdict.TheVariants.{Valid}
-use Rattle.host.specs.Outcome.{outcome_of, ran, outcome}
+use Rattle.host.specs.Outcome.{ran, outcome}
 use Rattle.host.proofs.executed.Goals as goal
 
-pub returns-in_default : goal.returns-in_default
+pub returns-in-None : goal.returns-in-None
 unfolding outcome
-returns-in_default c = ap (ran _) (sym c.in_default.is ∙ c.instruction_from_words.ensures)
-
-pub returns : goal.returns
-unfolding outcome
-returns c =
-    ap (outcome_of Valid) c.execute-next.ensures
-    ∙ ap (ran _) (sym c.in-Formed.is ∙ c.instruction_from_words.ensures)
+returns-in-None c = ap (ran c.args.words) (sym c.in-None.is ∙ c.from_words.ensures)

@@ -1,7 +1,6 @@
 -- `padded` is a copy over zeros. Assumes nothing.
-use mathlib.Core.Path.{◌∙◌}
-use Rattle.stream.specs.Written.{padded_is}
+use Rattle.stream.specs.Written.{slice_padded}
 use Rattle.stream.proofs.padded.Goals as goal
 
 pub returns : goal.returns
-returns c = c.copy.ensures ∙ padded_is _ c.requires
+returns c = slice_padded _ _ c.requires c.copy_from_slice.ensures.after

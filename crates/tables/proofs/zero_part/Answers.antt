@@ -1,19 +1,17 @@
--- `zero_part` meets its contract: before turn i the table is the one at entry with the words from `from` to i zeroed (specs/Zeros). Assumes nothing.
-use mathlib.Core.Path.{refl, ◌∙◌}
-use native.Mathlib.Omega.{arith}
-use lib.ListN.{length-set}
-use Rattle.tables.specs.Zeros.{zeroed_start, zeroed_next, zeroed_end}
+-- `zero_part` meets its contract: the part from `from` to the end is lent and comes back as zeros; past the end there is nothing to store. Assumes nothing.
+use Rattle.std.proofs.Common.{rules, ◌≡◌, ◌∙◌, ◌-◌, length, arith}
+use borrow.Rule.Slice.PartMut.{mid_of}
+use Rattle.tables.specs.Zeros.{zeros, put_zeros, zeroed_start, zeroed_end}
 use Rattle.tables.proofs.zero_part.Goals as goal
 
-pub loop-i-init : goal.loop-i-init
-loop-i-init c = (c.least-end.ensures, (omega arith, (omega arith, (refl, zeroed_start _ _))))
+pub returns-then-from-end : goal.returns-then-from-end
+returns-then-from-end c =
+    let t = c.args.table.now in
+    let n = c.min-end.result - c.args.from in
+    let e : c.fill.new.self ≡ zeros (length (mid_of c.args.from n t)) = search rules in
+    put_zeros c.args.from n t _ (omega arith) e ∙ zeroed_end c.args.from c.args.to c.min-end.result t (omega arith) (omega arith) (omega arith)
 
-pub loop-i-preserved : goal.loop-i-preserved
-loop-i-preserved c =
-    let v = c.loop-i.invariant in
-    (v.0, (omega arith, (omega arith, (simp length-set v.1.1.1.0, zeroed_next _ c.loop-i.i _ _ v.1.0 v.1.1.1.1))))
-
-pub returns : goal.returns
-returns c =
-    let v = c.loop-i.invariant in
-    v.1.1.1.1 ∙ zeroed_end c.args.from c.args.to c.loop-i.i c.args.table.now v.1.0 (omega arith) (omega arith)
+pub returns-else-from-end : goal.returns-else-from-end
+returns-else-from-end c =
+    let t = c.args.table.now in
+    zeroed_start c.args.from t ∙ zeroed_end c.args.from c.args.to c.args.from t (omega arith) (omega arith) (omega arith)

@@ -1,10 +1,7 @@
 use mathlib.Core.Path.{◌≡◌}
-use Prim.Native.Nat.{◌-◌, ◌≤◌}
+use Prim.Native.Nat.{◌-◌}
 use Rattle.allocate.specs.Registers.{free_from}
 use Rattle.allocate.proofs.registers.free_register.Given as goal
 
 abbrev pub invariant-loop-r : goal.invariant-loop-r
-invariant-loop-r l = (l.r ≤ 16) × (free_from 16 0 l.owner l.mask ≡ free_from (16 - l.r) l.r l.owner l.mask)
-
-abbrev pub decreases-loop-r : goal.decreases-loop-r
-decreases-loop-r l = 16 - l.r
+invariant-loop-r l = free_from 16 0 l.owner l.mask ≡ free_from (16 - l.r) l.r l.owner l.mask

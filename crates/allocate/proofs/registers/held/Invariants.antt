@@ -1,10 +1,7 @@
 use mathlib.Core.Path.{◌≡◌}
-use Prim.Native.Nat.{◌-◌, ◌≤◌}
+use Prim.Native.Nat.{◌≤◌}
 use Rattle.allocate.specs.Registers.{held_of}
 use Rattle.allocate.proofs.registers.held.Given as goal
 
 abbrev pub invariant-loop-r : goal.invariant-loop-r
-invariant-loop-r l = (l.r ≤ 16) × ((l.count ≤ l.r) × (l.count ≡ held_of l.r l.owner))
-
-abbrev pub decreases-loop-r : goal.decreases-loop-r
-decreases-loop-r l = 16 - l.r
+invariant-loop-r l = (l.count ≤ l.r) × (l.count ≡ held_of l.r l.owner)

@@ -6,16 +6,16 @@ use Rattle.block.specs.KindLaws.{length_most, length_stop, length_turn, length_e
 use Rattle.block.proofs.kinds.expanded_length.Goals as goal
 
 pub loop-i-init : goal.loop-i-init
-loop-i-init c = (omega arith, (sym (sum_start _), omega arith))
+loop-i-init c = (sym (sum_start _), omega arith)
 
 pub overflow_add-total : goal.overflow_add-total
-overflow_add-total c = omega (arith, c.length_of-total.ensures, length_most c.kind.result)
+overflow_add-total c = omega (arith, c.length-total.ensures, length_most c.from.result)
 
 pub returns-then-total-gt-MOST_NODES : goal.returns-then-total-gt-MOST_NODES
-returns-then-total-gt-MOST_NODES c = sym (length_stop _ _ _ _ _ c.loop-i-test.true c.loop-i.invariant.1.0 c.kind.ensures c.length_of-total.ensures c.if-total-gt-MOST_NODES.true)
+returns-then-total-gt-MOST_NODES c = sym (length_stop _ _ _ _ _ c.loop-i-test.true c.loop-i.invariant.0 c.from.ensures c.length-total.ensures c.if-total-gt-MOST_NODES.true)
 
 pub loop-i-preserved : goal.loop-i-preserved
-loop-i-preserved c = (omega arith, (length_turn _ _ _ _ c.loop-i.invariant.1.0 c.kind.ensures c.length_of-total.ensures, c.if-total-gt-MOST_NODES.false))
+loop-i-preserved c = (length_turn _ _ _ _ c.loop-i.invariant.0 c.from.ensures c.length-total.ensures, c.if-total-gt-MOST_NODES.false)
 
 pub returns : goal.returns
-returns c = length_end _ _ _ _ c.loop-i.invariant.0 c.loop-i-test.false c.loop-i.invariant.1.0 c.loop-i.invariant.1.1
+returns c = length_end _ _ _ _ (omega arith) c.loop-i-test.false c.loop-i.invariant.0 c.loop-i.invariant.1

@@ -1,10 +1,7 @@
 use mathlib.Core.Path.{◌≡◌}
-use Prim.Native.Nat.{◌-◌, ◌≤◌}
+use Prim.Native.Nat.{◌≤◌}
 use Rattle.block.specs.Kinds.{tanh_steps, offset}
 use Rattle.block.proofs.kinds.expanded_length.Given as goal
 
 abbrev pub invariant-loop-i : goal.invariant-loop-i
-invariant-loop-i l = (l.i ≤ l.count) × ((l.total ≡ offset tanh_steps l.nodes l.i) × (l.total ≤ 65536))
-
-abbrev pub decreases-loop-i : goal.decreases-loop-i
-decreases-loop-i l = l.count - l.i
+invariant-loop-i l = ((l.total ≡ offset tanh_steps l.nodes l.i) × (l.total ≤ 65536))

@@ -1,5 +1,5 @@
 use mathlib.Core.Path.{◌≡◌}
-use Prim.Native.Nat.{◌-◌, ◌≤◌}
+use Prim.Native.Nat.{◌≤◌}
 use Rattle.answers.specs.Numbers.{accepted}
 use Rattle.answers.specs.Order.{in_order}
 use Rattle.tables.specs.Loops.{sum}
@@ -8,7 +8,4 @@ use Rattle.block.specs.Validation.{delay_answer}
 use Rattle.block.proofs.scans.first_bad_delay.Given as goal
 
 abbrev pub invariant-loop-i : goal.invariant-loop-i
-invariant-loop-i l = (l.i ≤ l.count) × ((in_order (delay_answer l.delays l.nodes) l.i ≡ accepted tt) × ((l.total ≡ sum (delay_length l.delays) l.i) × (l.total ≤ 16777216)))
-
-abbrev pub decreases-loop-i : goal.decreases-loop-i
-decreases-loop-i l = l.count - l.i
+invariant-loop-i l = ((in_order (delay_answer l.delays l.nodes) l.i ≡ accepted tt) × ((l.total ≡ sum (delay_length l.delays) l.i) × (l.total ≤ 16777216)))

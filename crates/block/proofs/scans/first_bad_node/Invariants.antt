@@ -1,13 +1,8 @@
-use mathlib.Core.Path.{◌≡◌}
-use Prim.Native.Nat.{◌-◌, ◌≤◌}
+use Rattle.std.specs.Prelude.{◌≡◌}
 use Rattle.answers.specs.Numbers.{accepted}
 use Rattle.answers.specs.Order.{in_order}
 use Rattle.block.specs.Validation.{node_answer}
-use Rattle.block.specs.Parts.{counts}
 use Rattle.block.proofs.scans.first_bad_node.Given as goal
 
 abbrev pub invariant-loop-i : goal.invariant-loop-i
-invariant-loop-i l = (l.i ≤ l.count) × (in_order (node_answer l.nodes (counts l.parameters l.states l.delays)) l.i ≡ accepted tt)
-
-abbrev pub decreases-loop-i : goal.decreases-loop-i
-decreases-loop-i l = l.count - l.i
+invariant-loop-i l = in_order (node_answer l.nodes l.counts) l.i ≡ accepted tt

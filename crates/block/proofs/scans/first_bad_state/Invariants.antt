@@ -1,12 +1,8 @@
 use mathlib.Core.Path.{◌≡◌}
-use Prim.Native.Nat.{◌-◌, ◌≤◌}
 use Rattle.answers.specs.Numbers.{accepted}
 use Rattle.answers.specs.Order.{in_order}
 use Rattle.block.specs.Validation.{state_answer}
 use Rattle.block.proofs.scans.first_bad_state.Given as goal
 
 abbrev pub invariant-loop-i : goal.invariant-loop-i
-invariant-loop-i l = (l.i ≤ l.count) × (in_order (state_answer l.states l.nodes) l.i ≡ accepted tt)
-
-abbrev pub decreases-loop-i : goal.decreases-loop-i
-decreases-loop-i l = l.count - l.i
+invariant-loop-i l = (in_order (state_answer l.states l.nodes) l.i ≡ accepted tt)

@@ -2,8 +2,8 @@
 use Rattle.capi.specs.Runs.{short_handed_on, short_of_valid}
 use Rattle.capi.proofs.runs.short_registers.Goals as goal
 
-pub returns-in_default : goal.returns-in_default
-returns-in_default c = short_handed_on _ _ c.validate-verdict.ensures c.in_default.is
+pub returns-in_err-validate : goal.returns-in_err-validate
+returns-in_err-validate c = short_handed_on _ _ c.validate.ensures c.in_err-validate.was c.from_residual.ensures.1
 
 pub returns : goal.returns
-returns c = short_of_valid _ _ c.validate-verdict.ensures c.in-Valid.is
+returns c = short_of_valid _ c.validate.ensures c.in_ok-validate.was

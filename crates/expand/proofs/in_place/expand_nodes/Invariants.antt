@@ -3,6 +3,3 @@ use Rattle.expand.proofs.in_place.expand_nodes.Given as goal
 
 abbrev pub invariant-loop-i : goal.invariant-loop-i
 invariant-loop-i l = Going l.steps l.nodes l.initial.table l.total l.table l.i l.end
-
-abbrev pub decreases-loop-i : goal.decreases-loop-i
-decreases-loop-i l = l.i

@@ -9,6 +9,3 @@ abbrev pub invariant-loop-left : goal.invariant-loop-left
 invariant-loop-left l =
     (l.at + l.left * 3 ≤ 65536) × ((3 * (l.at + l.left * 3) ≤ length l.table) × ((length l.table ≡ length l.initial.table)
     × (write l.initial.table l.k (newton l.steps l.k l.x l.estimate l.two) ≡ write l.table l.at (newton l.left l.at l.x l.last l.two))))
-
-abbrev pub decreases-loop-left : goal.decreases-loop-left
-decreases-loop-left l = l.left

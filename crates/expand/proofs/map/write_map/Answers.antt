@@ -10,13 +10,13 @@ pub loop-i-init : goal.loop-i-init
 loop-i-init c = filling_start _ _ _ _
 
 pub overflow_add-total : goal.overflow_add-total
-overflow_add-total c = omega (arith, filling_small _ _ _ _ _ _ _ _ c.loop-i.invariant c.loop-i-test.true (length_is c.args.steps c.args.nodes.now c.loop-i.i c.length_of-total.ensures c.kind.ensures) c.requires.1)
+overflow_add-total c = omega (arith, filling_small _ _ _ _ _ _ _ _ c.loop-i.invariant c.loop-i-test.true (length_is c.args.steps c.args.nodes.now c.loop-i.i c.length-total.ensures c.from.ensures) c.requires.1)
 
 pub overflow_sub-table : goal.overflow_sub-table
-overflow_sub-table c = omega (arith, filling_small _ _ _ _ _ _ _ _ c.loop-i.invariant c.loop-i-test.true (length_is c.args.steps c.args.nodes.now c.loop-i.i c.length_of-total.ensures c.kind.ensures) c.requires.1)
+overflow_sub-table c = omega (arith, filling_small _ _ _ _ _ _ _ _ c.loop-i.invariant c.loop-i-test.true (length_is c.args.steps c.args.nodes.now c.loop-i.i c.length-total.ensures c.from.ensures) c.requires.1)
 
 pub overflow_cast-table : goal.overflow_cast-table
-overflow_cast-table c = omega (arith, filling_small _ _ _ _ _ _ _ _ c.loop-i.invariant c.loop-i-test.true (length_is c.args.steps c.args.nodes.now c.loop-i.i c.length_of-total.ensures c.kind.ensures) c.requires.1)
+overflow_cast-table c = omega (arith, filling_small _ _ _ _ _ _ _ _ c.loop-i.invariant c.loop-i-test.true (length_is c.args.steps c.args.nodes.now c.loop-i.i c.length-total.ensures c.from.ensures) c.requires.1)
 
 pub offset_bounds-table-i : goal.offset_bounds-table-i
 offset_bounds-table-i c = omega (arith, ap length c.loop-i.invariant.filled ∙ over_length c.args.steps c.args.nodes.now c.loop-i.i c.args.table.now)
@@ -25,7 +25,7 @@ pub bounds-table-i : goal.bounds-table-i
 bounds-table-i c = omega (arith, ap length c.loop-i.invariant.filled ∙ over_length c.args.steps c.args.nodes.now c.loop-i.i c.args.table.now)
 
 pub loop-i-preserved : goal.loop-i-preserved
-loop-i-preserved c = filling_next _ _ _ _ _ _ _ _ c.loop-i.invariant c.loop-i-test.true (length_is c.args.steps c.args.nodes.now c.loop-i.i c.length_of-total.ensures c.kind.ensures)
+loop-i-preserved c = filling_next _ _ _ _ _ _ _ _ c.loop-i.invariant c.loop-i-test.true (length_is c.args.steps c.args.nodes.now c.loop-i.i c.length-total.ensures c.from.ensures)
 
 pub shape_of-table : goal.shape_of-table
 shape_of-table c = ap length c.loop-i.invariant.filled ∙ over_length c.args.steps c.args.nodes.now c.loop-i.i c.args.table.now

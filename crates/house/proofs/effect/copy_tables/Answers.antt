@@ -15,5 +15,5 @@ copy_section-requires-3 c = let r = tables_room _ _ c.requires.1 in let e = c.re
 pub copy_section-requires-4 : goal.copy_section-requires-4
 copy_section-requires-4 c = let r = tables_room _ _ c.requires.1 in let e = c.requires.0 in (omega (arith, c.nodes_at-third.ensures), r.nodes)
 
-pub returns : goal.returns
-returns c = tables_read _ _ _ c.copy_section.ensures c.states_at-first.ensures c.copy_section-2.ensures c.delays_at-second.ensures c.copy_section-3.ensures c.nodes_at-third.ensures c.copy_section-4.ensures
+pub returns-clause-read : goal.returns-clause-read
+returns-clause-read c = tables_read _ _ _ c.copy_section.ensures c.states_at-first.ensures c.copy_section-2.ensures c.delays_at-second.ensures c.copy_section-3.ensures c.nodes_at-third.ensures c.copy_section-4.ensures

@@ -1,11 +1,8 @@
-use Rattle.std.proofs.Common.{◌≡◌, ◌-◌, ◌≤◌}
+use Rattle.std.proofs.Common.{◌≡◌}
 use Rattle.answers.specs.Numbers.{accepted}
 use Rattle.answers.specs.Order.{in_order}
 use Rattle.house.specs.Frame.{block_answer}
 use Rattle.house.proofs.frame.judge.Given as goal
 
 abbrev pub invariant-loop-number : goal.invariant-loop-number
-invariant-loop-number l = (l.number ≤ l.count) × (in_order (block_answer l.low l.high l.bytes) l.number ≡ accepted tt)
-
-abbrev pub decreases-loop-number : goal.decreases-loop-number
-decreases-loop-number l = l.count - l.number
+invariant-loop-number l = in_order (block_answer l.kinds.low l.kinds.high l.bytes) l.number ≡ accepted tt

@@ -10,7 +10,7 @@ loop-i-init c = (omega arith, (refl, section_start c.args.bytes.now c.args.from 
 pub loop-i-preserved : goal.loop-i-preserved
 loop-i-preserved c =
     let v = c.loop-i.invariant in
-    (omega arith, (ap length c.copy_words.ensures ∙ (simp length-sets v.1.0), section_next c.args.bytes.now c.args.from c.loop-i.i c.least-here.result _ _ _ _ _ v.1.1 refl refl (omega arith) c.copy_words.ensures))
+    (omega arith, (ap length c.copy_words.ensures ∙ (simp length-sets v.1.0), section_next c.args.bytes.now c.args.from c.loop-i.i c.min-here.result _ _ _ _ _ v.1.1 refl refl (omega arith) c.copy_words.ensures))
 
 pub shape_of-table : goal.shape_of-table
 shape_of-table c = c.loop-i.invariant.1.0

@@ -7,13 +7,13 @@ use borrow.Author.Rules.{rules}
 use Rattle.machine.proofs.registers.put.Goals as goal
 
 pub loop-k-init : goal.loop-k-init
-loop-k-init c = (omega arith, up_to_start _ _ _)
+loop-k-init c = up_to_start _ _ _
 
 pub loop-k-preserved : goal.loop-k-preserved
-loop-k-preserved c = (omega arith, up_to_next _ _ _ _ _ _ c.loop-k.invariant.1 c.pick.ensures)
+loop-k-preserved c = up_to_next _ _ _ _ _ _ c.loop-k.invariant c.pick.ensures
 
 pub returns : goal.returns
 returns c =
     let l : length c.args.registers ≡ 16 = search rules in
-    let k : c.loop-k.k ≡ 16 = omega arith in
-    c.loop-k.invariant.1 ∙ rw (k, ← l) (up_to_end _ _ _)
+    let k : c.loop-k.k ≡ length c.args.registers = omega arith in
+    c.loop-k.invariant ∙ rw k (up_to_end _ _ _)

@@ -7,15 +7,15 @@ use Rattle.memory.specs.LineLaws.{bases_room, bases_next, bases_end}
 use Rattle.memory.proofs.lines.line_bases.Goals as goal
 
 pub loop-i-init : goal.loop-i-init
-loop-i-init c = (omega arith, sym (sum_start _), filled_start _ _)
+loop-i-init c = (sym (sum_start _), filled_start _ _)
 
 pub overflow_add-base : goal.overflow_add-base
 overflow_add-base c = omega (arith, bases_room _ c.requires c.loop-i.i c.loop-i-test.true)
 
 pub loop-i-preserved : goal.loop-i-preserved
 loop-i-preserved c =
-    let l = c.loop-i-test.true in
-    (omega arith, sum_turn _ _ _ c.loop-i.invariant.1, bases_next _ c.requires _ l _ _ c.loop-i.invariant.1 c.loop-i.invariant.2)
+    let e = c.loop-i.invariant in
+    (sum_turn _ _ _ e.0, bases_next _ c.requires _ c.loop-i-test.true _ _ e.0 e.1)
 
 pub returns : goal.returns
-returns c = bases_end _ _ c.loop-i.i (omega arith) c.loop-i.invariant.2
+returns c = bases_end _ _ c.loop-i.i (omega arith) c.loop-i.invariant.1

@@ -1,5 +1,4 @@
 use mathlib.Core.Path.{◌≡◌}
-use Prim.Native.Nat.{◌-◌, ◌≤◌}
 use Rattle.tables.specs.Loops.{sum}
 use Rattle.block.specs.Block.{delay_length}
 use Rattle.memory.specs.Lines.{line_base}
@@ -9,7 +8,4 @@ use Rattle.memory.proofs.lines.line_bases.Given as goal
 
 abbrev pub invariant-loop-i : goal.invariant-loop-i
 invariant-loop-i l =
-    (l.i ≤ l.count) × (l.base ≡ sum (delay_length l.delays) l.i) × (l.bases ≡ filled (line_base (line_lengths l.delays)) l.i l.initial.bases)
-
-abbrev pub decreases-loop-i : goal.decreases-loop-i
-decreases-loop-i l = l.count - l.i
+    (l.base ≡ sum (delay_length l.delays) l.i) × (l.bases ≡ filled (line_base (line_lengths l.delays)) l.i l.initial.bases)

@@ -1,27 +1,21 @@
 -- `invariance`: before turn i the flags of the first i nodes stand written. Assumes nothing.
-use mathlib.Core.Path.{◌≡◌, refl}
+use mathlib.Core.Path.{refl}
 use native.Mathlib.Omega.{arith}
 use lib.ListN.{length-set}
 use Rattle.plan.specs.HoistLaws.{invariance_start, invariance_next}
 use Rattle.plan.proofs.hoist.invariance.Goals as goal
 
 pub loop-i-init : goal.loop-i-init
-loop-i-init c = (omega arith, refl, invariance_start c.args.nodes.now _)
+loop-i-init c = (refl, invariance_start c.args.flow.now.nodes.now _)
 
 pub invariant_word-requires : goal.invariant_word-requires
-invariant_word-requires c = (rw c.loop-i.invariant.1 c.requires, c.loop-i-test.true)
+invariant_word-requires c = (rw c.loop-i.invariant.0 c.requires, c.loop-i-test.true)
 
 pub offset_bounds-work-i : goal.offset_bounds-work-i
-offset_bounds-work-i c = omega (arith, c.loop-i.invariant.1, c.requires.room)
+offset_bounds-work-i c = omega (arith, c.loop-i.invariant.0, c.requires.room)
 
 pub bounds-work-i : goal.bounds-work-i
-bounds-work-i c = omega (arith, c.loop-i.invariant.1, c.requires.room)
+bounds-work-i c = omega (arith, c.loop-i.invariant.0, c.requires.room)
 
 pub loop-i-preserved : goal.loop-i-preserved
-loop-i-preserved c = (omega arith, simp length-set c.loop-i.invariant.1, invariance_next _ _ _ c.requires _ c.loop-i-test.true _ _ _ refl c.loop-i.invariant.2 c.invariant_word.ensures)
-
-pub shape_of-work : goal.shape_of-work
-shape_of-work c = c.loop-i.invariant.1
-
-pub returns : goal.returns
-returns c = let e : c.loop-i.i ≡ c.args.sizes.nodes = omega (arith, c.loop-i.invariant.0, c.loop-i-test.false) in rw e at c.loop-i.invariant.2
+loop-i-preserved c = (simp length-set c.loop-i.invariant.0, invariance_next _ _ _ c.requires _ c.loop-i-test.true _ _ _ refl c.loop-i.invariant.1 c.invariant_word.ensures)

@@ -17,4 +17,4 @@ pub shape_of-work : goal.shape_of-work
 shape_of-work c = (simp marked_length at (ap length c.mark_updates-2.ensures)) ∙ (simp (marked_length, length-set) at (ap length c.mark_updates.ensures))
 
 pub returns : goal.returns
-returns c = roots_all c.args.sizes.nodes c.args.output (updates_of c.args.updates.now) (updates_of c.args.stores.now) c.args.work.now _ _ c.mark_updates.ensures c.mark_updates-2.ensures
+returns c = roots_all c.args.flow.now.sizes.nodes c.args.flow.now.output (updates_of c.args.flow.now.updates.now) (updates_of c.args.flow.now.stores.now) c.args.work.now _ _ (rw c.needed.ensures at c.mark_updates.ensures) c.mark_updates-2.ensures

@@ -1,19 +1,21 @@
--- `after`: a law for each way out. Assumes nothing.
-use native.Mathlib.Omega.{arith}
-use Rattle.plan.specs.Layout.{room_in}
-use Rattle.plan.specs.LastLaws.{after_read, after_own, after_later}
-use mathlib.Core.Path.{ap}
-use mathlib.Core.Bool.{not}
+-- `after`: the later of the two. The check finds it alone; written out, since the edit that takes the earlier has to fail here. Assumes nothing.
+use Rattle.std.specs.Prelude.{◌≡◌, ◌⊎◌, ℕ, ◌+◌, ◌≤◌, ◌<◌, max, not}
+use Rattle.std.proofs.Common.{ap, ◌∙◌, inl, inr, arith}
+use Rattle.std.proofs.lemmas.Bool.{cases_order}
+use Rattle.plan.specs.LastLaws.{after_own, after_later}
 use Rattle.plan.proofs.schedule.after.Goals as goal
 
-pub last_reader-read-requires : goal.last_reader-read-requires
-last_reader-read-requires c = (room_in _ _ _ c.requires.0, c.requires.1, c.requires.2)
+latest : (read own x : ℕ) → (read < own → own ≡ x) → (own ≤ read → read ≡ x) → max read own ≡ x
+latest read own x f g = go (cases_order read own)
+  where
+    go : (read ≡ own) ⊎ ((read < own) ⊎ (own < read)) → max read own ≡ x
+    go (inl e) = let m : max read own ≡ read = omega arith in m ∙ g (omega arith)
+    go (inr (inl l)) = let m : max read own ≡ own = omega arith in m ∙ f l
+    go (inr (inr l)) = let m : max read own ≡ read = omega arith in m ∙ g (omega arith)
 
-pub returns-then-not-is_sample_computation : goal.returns-then-not-is_sample_computation
-returns-then-not-is_sample_computation c = after_read _ _ _ _ _ _ _ c.last_reader-read.ensures c.is_sample_computation.ensures (ap not c.if-not-is_sample_computation.true)
-
-pub returns-then-read-own : goal.returns-then-read-own
-returns-then-read-own c = after_own _ _ _ _ _ _ _ c.last_reader-read.ensures c.is_sample_computation.ensures (ap not c.if-not-is_sample_computation.false) c.if-read-own.true
-
-pub returns : goal.returns
-returns c = after_later _ _ _ _ _ _ _ c.last_reader-read.ensures c.is_sample_computation.ensures (ap not c.if-not-is_sample_computation.false) (omega (arith, c.if-read-own.false))
+pub returns-then-is_sample_computation : goal.returns-then-is_sample_computation
+returns-then-is_sample_computation c =
+    let own = after_own _ _ _ _ _ _ _ c.last_reader-read.ensures c.is_sample_computation.ensures (ap not c.if-is_sample_computation.true) in
+    let read = after_later _ _ _ _ _ _ _ c.last_reader-read.ensures c.is_sample_computation.ensures (ap not c.if-is_sample_computation.true) in
+    let e = latest _ _ _ own read in
+    cc

@@ -1,12 +1,8 @@
 use mathlib.Core.Path.{◌≡◌}
-use Prim.Native.Nat.{◌-◌, ◌≤◌}
 use lib.ListN.{length}
 use Rattle.tables.specs.Loops.{turns}
 use Rattle.plan.specs.SourceLaws.{canonical_node}
 use Rattle.plan.proofs.sources.canonical.Given as goal
 
 abbrev pub invariant-loop-i : goal.invariant-loop-i
-invariant-loop-i l = (l.i ≤ l.count) × (length l.work ≡ length l.initial.work) × (l.work ≡ turns (canonical_node l.sizes l.control l.nodes) l.initial.work l.i)
-
-abbrev pub decreases-loop-i : goal.decreases-loop-i
-decreases-loop-i l = l.count - l.i
+invariant-loop-i l = (length l.work ≡ length l.initial.work) × (l.work ≡ turns (canonical_node l.flow.sizes l.control l.flow.nodes.now) l.initial.work l.i)

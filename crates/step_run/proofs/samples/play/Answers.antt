@@ -1,19 +1,23 @@
 -- `play`: the samples begin where the control steps end, with tables as long as before (`play_ran` of specs/SampleLaws). Assumes nothing.
 use mathlib.Core.Path.{refl}
-use Rattle.memory.specs.Fit.{line_lengths}
-use Rattle.memory.specs.Signals.{signals}
-use Rattle.step_run.specs.Run.{setup, code_of}
+use Rattle.step_run.specs.Setup.{setup_for}
 use Rattle.step_run.specs.SampleLaws.{play_ready, play_listed, play_ran}
 use Rattle.step_run.proofs.samples.play.Goals as goal
 
-pub line_bases-bases-requires : goal.line_bases-bases-requires
-line_bases-bases-requires c = c.requires.small
+pub samples-requires-clause-ready : goal.samples-requires-clause-ready
+samples-requires-clause-ready c =
+    let s = c.args.slots.now in let m = c.args.memories.now in
+    play_ready (setup_for c.args.block.now c.args.code.now c.args.signals.now) _ _ c.args.code.now.instructions.now c.args.block.now.delays.now s.control.now s.spills.now
+    m.held.now m.area.now m.cursors.now c.args.output.now refl c.requires _ _ _ _ c.start-registers.ensures.done _ c.line_bases-bases.ensures
 
-pub start-registers-requires : goal.start-registers-requires
-start-registers-requires c = (rw c.line_bases-bases.ensures c.requires.ready, c.requires.first)
+pub samples-requires-clause-listed : goal.samples-requires-clause-listed
+samples-requires-clause-listed c =
+    let s = c.args.slots.now in let m = c.args.memories.now in
+    play_listed (setup_for c.args.block.now c.args.code.now c.args.signals.now) _ _ c.args.code.now.instructions.now c.args.block.now.delays.now s.control.now s.spills.now
+    m.held.now m.area.now m.cursors.now c.args.output.now refl c.requires _ _ _ _ c.start-registers.ensures.done
 
-pub samples-requires : goal.samples-requires
-samples-requires c = (play_ready (setup (line_lengths c.args.delays.now) c.args.flag (code_of c.args.kernel c.args.steps.now c.args.instructions.now) (signals c.args.settings.now c.args.input.now c.args.network.now)) _ _ c.args.instructions.now c.args.delays.now c.args.control.now c.args.spills.now c.args.held.now c.args.area.now c.args.cursors.now c.args.output.now refl c.requires _ _ _ _ (c.start-registers.ensures c.args.flag c.args.input.now c.args.network.now) _ c.line_bases-bases.ensures, (play_listed (setup (line_lengths c.args.delays.now) c.args.flag (code_of c.args.kernel c.args.steps.now c.args.instructions.now) (signals c.args.settings.now c.args.input.now c.args.network.now)) _ _ c.args.instructions.now c.args.delays.now c.args.control.now c.args.spills.now c.args.held.now c.args.area.now c.args.cursors.now c.args.output.now refl c.requires _ _ _ _ (c.start-registers.ensures c.args.flag c.args.input.now c.args.network.now), c.requires.sounding))
-
-pub returns : goal.returns
-returns c = play_ran (setup (line_lengths c.args.delays.now) c.args.flag (code_of c.args.kernel c.args.steps.now c.args.instructions.now) (signals c.args.settings.now c.args.input.now c.args.network.now)) _ _ c.args.control.now c.args.spills.now c.args.held.now c.args.area.now c.args.cursors.now c.args.output.now _ _ _ _ _ _ _ _ _ (c.start-registers.ensures c.args.flag c.args.input.now c.args.network.now) (c.samples.ensures c.args.kernel.control)
+pub returns-clause-done : goal.returns-clause-done
+returns-clause-done c =
+    let s = c.args.slots.now in let m = c.args.memories.now in
+    play_ran (setup_for c.args.block.now c.args.code.now c.args.signals.now) _ _ s.control.now s.spills.now m.held.now m.area.now m.cursors.now c.args.output.now
+    _ _ _ _ _ _ _ _ _ c.start-registers.ensures.done (c.samples.ensures.done c.args.code.now.kernel.control)

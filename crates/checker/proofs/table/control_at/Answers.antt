@@ -1,7 +1,0 @@
--- `control_at`: the region of the control slots. Assumes nothing.
-use Rattle.checker.specs.Table.{held_of}
-use Rattle.checker.proofs.table.control_at.Goals as goal
-
-pub returns : goal.returns
-unfolding held_of
-returns c = c.read_in.ensures

@@ -1,7 +1,0 @@
--- `register_at`: the region of the registers. Assumes nothing.
-use Rattle.checker.specs.Table.{held_of}
-use Rattle.checker.proofs.table.register_at.Goals as goal
-
-pub returns : goal.returns
-unfolding held_of
-returns c = c.read_in.ensures

@@ -1,0 +1,17 @@
+-- What is within reach in lent memories; a function that keeps the lent tables, and the next one. Assumes nothing.
+use Rattle.std.specs.Prelude.{refl, ℕ, ◌<◌, length}
+use Rattle.std.proofs.Common.{◌∙◌}
+use Rattle.memory.specs.declared.lines.Lines as LentLines
+use Rattle.memory.specs.declared.lines.Memories as LentMemories
+use Rattle.memory.specs.Fit.{Reach}
+use Rattle.memory.specs.Lent.{LinesFit, KeepsTables}
+
+-- a line of these memories is within reach
+pub reach : (l : LentLines.Lines) (m : LentMemories.Memories) {i : ℕ} → LinesFit l m → i < length m.cursors.now → Reach l.delays.now l.bases.now m.area.now m.cursors.now i
+reach l m f h = record { fit = f; based = l.based; inside = h }
+
+pub keeps_start : {m : LentMemories.Memories} → KeepsTables m m
+keeps_start = record { held = refl; area = refl; cursors = refl }
+
+pub keeps_next : {m n o : LentMemories.Memories} → KeepsTables m n → KeepsTables n o → KeepsTables m o
+keeps_next k l = record { held = l.held ∙ k.held; area = l.area ∙ k.area; cursors = l.cursors ∙ k.cursors }

@@ -1,5 +1,0 @@
--- `replay` ends: the turns that are left fall. Nothing has to hold from turn to turn.
-use Rattle.replay_blocks.proofs.replay.Given as goal
-
-abbrev pub decreases-loop-turns : goal.decreases-loop-turns
-decreases-loop-turns g l = l.turns

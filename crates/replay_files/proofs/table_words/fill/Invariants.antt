@@ -1,6 +1,0 @@
--- `fill` ends: `at` goes up to the table's length, which a store keeps.
-use Rattle.std.proofs.Common.{◌-◌, length}
-use Rattle.replay_files.proofs.table_words.fill.Given as goal
-
-abbrev pub decreases-loop-at : goal.decreases-loop-at
-decreases-loop-at l = length l.initial.words - l.at

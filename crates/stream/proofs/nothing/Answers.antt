@@ -1,6 +1,0 @@
--- `nothing`. Assumes nothing.
-use Rattle.stream.specs.StreamLaws.{none_is}
-use Rattle.stream.proofs.nothing.Goals as goal
-
-pub returns : goal.returns
-returns c = λ low high. none_is low high
