@@ -33,7 +33,8 @@ fn short_work(kernel: Kernel, nodes: usize, counts: Counts, work: &[u32]) -> boo
     work.len() < 8 * nodes + 8 * (counts.states + counts.delays) + 320 + (slots + spills)
 }
 
-// The refusals of both calls that change nothing, from the lengths and words of their tables. What is lent stays apart: the check is lent the first two, the run all but `work`.
+// The refusals of both calls that change nothing, from the lengths and words of their tables. What is lent stays apart: the check is lent the first two, the
+// run all but `work`.
 fn judge(
     block: &Block<'_>,
     code: &Code<'_>,

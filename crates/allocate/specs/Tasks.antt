@@ -1,15 +1,16 @@
 -- How the tables hold it: one task and a phase's tasks, on exact words (document 01, module 4; codegen.rs, `run`). The second layer. Definitions alone.
-use Rattle.std.specs.Prelude.{◌≡◌, Bool, cond, not, List, ℕ, zero, suc, ◌+◌, ◌*◌, ◌-◌, ◌<◌, get_or, set, eqb, ltb, Option, Some, None, Result, is_ok}
+use Rattle.std.specs.Prelude.{Bool, cond, not, List, ℕ, zero, suc, ◌+◌, ◌*◌, ◌-◌, get_or, set, eqb, ltb, Result, is_ok}
 use Rattle.kernel.specs.declared.Instruction.{Instruction}
 use Rattle.kernel.specs.declared.Instruction.TheVariants.{Add, Sub, Mul, Min, Max, Neg, Abs, IntegerSub}
 use Rattle.block.specs.Block.{code, first, second}
 use Rattle.allocate.specs.declared.Frame.{Frame}
 use Rattle.allocate.specs.declared.Access.{Access}
 use Rattle.allocate.specs.declared.Reads.{Reads}
-use Rattle.allocate.specs.declared.Operands.{Operands}
+use Rattle.allocate.specs.declared.Fetched.{Fetched}
 use Rattle.allocate.specs.declared.Allocator.{Allocator}
 use Rattle.allocate.specs.declared.Desk as declared
 use Rattle.plan.specs.declared.Flow as flows
+use Rattle.allocate.specs.Registers.{register_or_16}
 use Rattle.allocate.specs.Layout.{slot_at, canonical_at, next_at, holder_at, spilled_at, fresh_at, task_at, link_at, home_at}
 use Rattle.allocate.specs.Desk.{Desk, desk, the_desk, Choice, choose, store, with_allocator, owner_to, access, emitted, operated, taken, fetched, released_both}
 
@@ -70,10 +71,9 @@ pub record Held : Type 0 where
 abbrev pub holding : ℕ → ℕ → Desk → Held
 holding first second d = record { first = first; second = second; desk = d }
 
--- as the code has it: both, or none where one is not to be had
-abbrev pub BothHeld : Option Operands → declared.Desk → Held → Type 0
-BothHeld (Some o) d h = (holding o.first o.second (the_desk d) ≡ h) × (o.second < 16)
-BothHeld None d h = holding h.first 16 (the_desk d) ≡ h
+-- as the code has it: each a register, or none
+abbrev pub held : Fetched → declared.Desk → Held
+held f d = holding (register_or_16 f.first) (register_or_16 f.second) (the_desk d)
 
 -- the second, while the first is locked
 unfoldable pub second_after : Frame → List ℕ → ℕ → Choice → Held

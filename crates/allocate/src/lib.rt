@@ -22,7 +22,9 @@ pub struct Frame {
     pub control: bool,
 }
 
-// Where the work table holds what is known of a node, a task or a memory: the regions of specs/Layout.
+// Where the work table holds what is known of a node, a task or a memory: the regions of specs/Layout. Five of them are regions of plan's `Sizes` too; each crate's
+// definitions speak of its own struct (`slot_at frame node`), so each has its methods. That the nodes are few is asked for here and kept by no ghost field, which
+// would ask it of every function that takes a frame.
 impl Frame {
     ghost use Rattle.std.specs.Prelude.{◌≡◌, ◌<◌, ◌≤◌};
     ghost use Rattle.allocate.specs.Layout.{slot_at, canonical_at, next_at, holder_at, spilled_at, fresh_at, freed_at, task_at, link_at, home_at};
@@ -108,7 +110,7 @@ impl Frame {
     }
 }
 
-// The node + 1 in each register, 0 none; the slots in use; how many freed slots stand on their stack; how many steps and instructions are written; the most
+// The node + 1 in each register, 0 none, as `Registers` of specs/ reads it, with no Option; the slots in use; how many freed slots stand on their stack; how many steps and instructions are written; the most
 // registers held at once.
 #[derive(Clone, Copy)]
 pub struct Allocator {
@@ -121,7 +123,8 @@ pub struct Allocator {
 }
 
 // Where a phase's tasks are worked off: the work table, the steps and the instructions that were lent, and the allocator. The methods are with their kind,
-// one module each: `steps`, `take`, `fetch`, `release`, `tasks` and `phase`. `frame` and the nodes stay parameters of theirs: the definitions take them apart from the desk.
+// one module each: `steps`, `take`, `fetch`, `release`, `tasks` and `phase`. `frame` and the nodes stay parameters of theirs: the definitions take them
+// apart from the desk. So `Wide` and `ReadyAt`, which speak of a frame and a desk together, stand in the clauses: no ghost field of one can say them.
 #[derive(Drop)]
 pub struct Desk<'a> {
     pub work: &'a mut [u32],
@@ -151,6 +154,13 @@ pub struct Access {
 pub struct Reads {
     pub first: usize,
     pub second: usize,
+}
+
+// The registers of what a task reads, as far as they are to be had.
+#[derive(Clone, Copy)]
+pub struct Fetched {
+    pub first: Option<usize>,
+    pub second: Option<usize>,
 }
 
 // The registers that hold what a task reads.

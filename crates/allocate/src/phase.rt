@@ -25,7 +25,7 @@ impl Desk<'_> {
         tasks::reads_of(flow, self.work, frame, task)
     }
 
-    // What a task says and what follows, once both operands are held.
+    // What a task says and what follows, once both operands are held. The task and its position stand beside the structs, for they are this call's alone.
     #[tactic(auto, unfolding(crate::specs::Tasks::performed, crate::specs::Tasks::finished))]
     fn perform(
         &mut self,
@@ -59,7 +59,11 @@ impl Desk<'_> {
         let at = frame.task_at(position);
         let task = self.work[at] as usize;
         let reads = self.reads_of(flow, frame, task);
-        let operands = self.fetch_both(flow.nodes, frame, reads)?;
+        let fetched = self.fetch_both(flow.nodes, frame, reads);
+        // Where the second is to be had, the first is.
+        let second = fetched.second?;
+        let first = fetched.first?;
+        let operands = Operands { first, second };
         self.perform(flow.nodes, frame, reads, operands, task, position)
     }
 

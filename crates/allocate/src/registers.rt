@@ -124,7 +124,7 @@ impl Desk<'_> {
         best
     }
 
-    // The register to empty, unless every usable one is locked.
+    // The register to empty, unless every usable one is locked. At most two are, an operation's operands: a slice, since one, two or none is what callers have.
     #[tactic(auto, unfolding(crate::specs::Registers::victim_of))]
     pub fn victim(&self, frame: Frame, locked: &[usize]) -> Option<usize>
         requires owned { Wide frame self.now.work.now × Owners frame self.now.allocator.owner }

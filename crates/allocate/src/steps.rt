@@ -23,7 +23,7 @@ fn write_pair(table: &mut [u32], place: usize, word: u32, index: u32)
 impl Desk<'_> {
     ghost use Rattle.allocate.specs.Desk.{the_desk, KeepsTables, emitted, operated};
 
-    // A step more.
+    // A step more, by the code of its word and no `Step`: `emitted` takes codes, also that of a value that comes from nowhere (0), which no step has.
     #[tactic(auto, unfolding(crate::specs::Desk::emitted))]
     pub fn emit(&mut self, code: u32, register: usize, index: u32)
         requires room { 2 * (self.old.allocator.steps + 1) ≤ length self.old.steps.now }

@@ -5,7 +5,7 @@ ghost use Rattle.allocate.specs.Layout.{Wide};
 ghost use Rattle.allocate.specs.Tasks.{the_lent, value_of, canonical_of, compute_reads, reads_of, advanced, lowered, target_of};
 ghost use Rattle.allocate.specs.Planned.{TaskFits};
 
-use crate::{Access, Desk, Frame, Operands, Reads, steps};
+use crate::{Access, Desk, Fetched, Frame, Operands, Reads, steps};
 use kernel::Instruction;
 use plan::Flow;
 
@@ -39,7 +39,7 @@ fn canonical(work: &[u32], frame: Frame, node: usize) -> usize
     work[at] as usize
 }
 
-// The operands of a computation: codes up to 10 have two.
+// The operands of a computation: codes up to 10 have two, as the definition `compute_reads` says it.
 #[tactic(auto, unfolding(crate::specs::Tasks::compute_reads))]
 fn compute_reads(nodes: &[u32], work: &[u32], frame: Frame, node: usize) -> Reads
     requires wide { Wide frame work.now × ((node < frame.nodes) × (3 * frame.nodes ≤ length nodes.now)) }
@@ -94,7 +94,7 @@ pub fn advance(work: &mut [u32], frame: Frame, reads: Reads, position: usize)
     work[rhs] = second;
 }
 
-// The instruction of a computation's code.
+// The instruction of a computation's code: a word of a node's record, as `lowered` has it.
 #[tactic(auto, unfolding(crate::specs::Tasks::lowered))]
 fn lower(code: u32, dst: u32, lhs: u32, rhs: u32) -> Instruction
     ensures { result ≡ lowered code dst lhs rhs }
@@ -134,19 +134,26 @@ fn target_of(frame: Frame, memory: usize) -> Access
 impl Desk<'_> {
     ghost use Rattle.allocate.specs.Desk.{the_desk, KeepsTables, choice};
     ghost use Rattle.allocate.specs.Ready.{ReadyAt, RoomAt};
-    ghost use Rattle.allocate.specs.Tasks.{BothHeld, fetched_both, handed, destined, computed, stowed, home_of, preserved, written, stored, arm_of};
+    ghost use Rattle.allocate.specs.Tasks.{held, fetched_both, handed, destined, computed, stowed, home_of, preserved, written, stored, arm_of};
 
-    // What a task reads, in registers: each is locked once it is fetched.
+    // What a task reads, in registers: each is locked once it is fetched. Where no register is to be had for the second, the first is told all the same.
     #[tactic(auto, unfolding(crate::specs::Tasks::fetched_both, crate::specs::Tasks::second_after))]
-    pub fn fetch_both(&mut self, nodes: &[u32], frame: Frame, reads: Reads) -> Option<Operands>
+    pub fn fetch_both(&mut self, nodes: &[u32], frame: Frame, reads: Reads) -> Fetched
         requires ready { ReadyAt frame (the_desk self.old) × (((reads.first < frame.nodes) × (reads.second < frame.nodes)) × (3 * frame.nodes ≤ length nodes.now)) }
         requires room { RoomAt 4 (the_desk self.old) }
-        ensures done { BothHeld result self.new (fetched_both frame nodes.now reads (the_desk self.old)) }
+        ensures done { held result self.new ≡ fetched_both frame nodes.now reads (the_desk self.old) }
+        ensures registers { IfSome result.first (λ r. r < 16) × IfSome result.second (λ r. r < 16) }
         ensures same_tables { KeepsTables self.old self.new }
     {
-        let first = self.fetch(nodes, frame, &[], reads.first)?;
-        let second = self.fetch(nodes, frame, &[first], reads.second)?;
-        Some(Operands { first, second })
+        let first = self.fetch(nodes, frame, &[], reads.first);
+        let Some(locked) = first else {
+            return Fetched {
+                first,
+                second: None,
+            };
+        };
+        let second = self.fetch(nodes, frame, &[locked], reads.second);
+        Fetched { first, second }
     }
 
     // A dying operand lends its register to the result.

@@ -17,7 +17,7 @@ fn some_node<F: Fn(u32, u32, u32) -> bool>(nodes: &[u32], test: F) -> bool
         → ((i : ℕ) (b : Bool) → F.post test (code nodes.now i) (first nodes.now i) (second nodes.now i) b → b ≡ passes i)
         → result ≡ some passes (length nodes.now / 3) }
 {
-    // A `for` that ends early: a node is three words of the table, so an iterator over the words would have to be cut in threes first.
+    // A `for`: with `any` over the range a goal is left that the check does not close, since the clause speaks of any test.
     for i in 0..nodes.len() / 3 {
         let at = 3 * i;
         if test(nodes[at], nodes[at + 1], nodes[at + 2]) {

@@ -123,7 +123,7 @@ impl Terms {
     }
 }
 
-// A word of a table, 0 past its end.
+// A word of a table, 0 past its end. The machine's `read` says the same of sixteen registers by value.
 pub fn word_at(table: &[u32], i: u32) -> u32
     ensures { result ≡ get_or table.now i 0 }
 {
@@ -142,6 +142,7 @@ pub fn class_at(terms: Terms, work: &[u32], node: u32) -> u32
     word_at(classes.words(work), node)
 }
 
+// This and the readers behind it are one line each, and each states another field of what is held (`Held`).
 #[tactic(auto, unfolding(crate::specs::Table::held_of))]
 pub fn register_at(terms: Terms, work: &[u32], index: u32) -> u32
     requires { table_end terms ≤ length work.now }

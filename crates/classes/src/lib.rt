@@ -15,7 +15,8 @@ ghost use Rattle.classes.specs.Start.{index_length, bucket_of, root};
 ghost use Rattle.classes.specs.Cells.{Walk};
 ghost use Rattle.classes.specs.Index.{Fresh, Filled, Indexed, Ready, keys_at};
 
-// Whether the first word of a node of this code is an operand. By the code's number, not its kind: this is asked for every node.
+// Whether the first word of a node of this code is an operand. By the code's number, not its kind: this is asked for every node. One
+// range of codes, as is the second word's below: one function for both would be a match of these two lines.
 #[tactic(auto, using(crate::specs::ClassLaws::first_operand))]
 fn first_is_operand(code: u32) -> bool
     ensures { result ≡ is_operand code 0 }

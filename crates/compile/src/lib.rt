@@ -43,8 +43,8 @@ fn shorter(
         || work < 32 * nodes + 16 * memories + 320
 }
 
-// The refusals 1 to 13 of a call, from the lengths and words of its tables. The four lent tables stay four parameters: `tables` joins them in the clauses, and a struct of
-// four `&mut` would add a literal to each caller and a clause to each function.
+// The refusals 1 to 13 of a call, from the lengths and words of its tables. The four lent tables stay four parameters: `tables` joins them in the clauses, and
+// a struct of four `&mut` would add a literal to each caller and a clause to each function.
 fn judge(
     block: &Block<'_>,
     expansion: &[u32],
@@ -69,7 +69,8 @@ fn judge(
     Ok(())
 }
 
-// Both phases of a block that is expanded. The work table begins with the map of nodes.
+// Both phases of a block that is expanded. The work table begins with the map of nodes. The count of expanded nodes is this call's alone, so it stands beside
+// the block.
 fn compile_expanded(
     block: &Block<'_>,
     count: usize,

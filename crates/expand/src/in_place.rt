@@ -9,7 +9,7 @@ ghost use Rattle.expand.specs.Writes.{write};
 use crate::macros;
 use block::{Kind, kinds};
 
-// A node of a kind at position k, whose operands are mapped already.
+// A node of a kind at position k, whose operands are mapped already: its three words one by one, as the definition `expand_as` has them.
 fn write_node(table: &mut [u32], k: u32, kind: Kind, code: u32, first: u32, second: u32, steps: u32)
     requires { (k + length_of steps kind ≤ 65536) × (3 * (k + length_of steps kind) ≤ length table.old) }
     ensures { table.new ≡ write table.old k (E.expand_as steps kind same k code first second) }

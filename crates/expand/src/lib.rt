@@ -31,15 +31,12 @@ pub fn expand(block: &Block<'_>, table: &mut [u32]) -> Result<Expanded, Refusal>
 }
 
 // The last expanded node of each node over the table's first words, and true. Where the table has fewer words than there are nodes, or the expansion
-// is over the limit, nothing is written and the answer is false. A flag and no Result: `map_call` (docs/PROMISES.md) says true or false and the table, and no refusal has a number
-// for it.
+// is over the limit, nothing is written and the answer is false. A flag and no Result: `map_call` (docs/PROMISES.md) says true or false and the table, and
+// no refusal has a number for it.
 pub fn map_nodes(nodes: &[u32], table: &mut [u32]) -> bool
     ensures { mapping result table.new ≡ map_call nodes.now table.old }
 {
-    if table.len() < nodes.len() / 3 {
-        return false;
-    }
-    if limits::MOST_NODES < kinds::expanded_length(nodes) {
+    if table.len() < nodes.len() / 3 || limits::MOST_NODES < kinds::expanded_length(nodes) {
         return false;
     }
     map::write_map(nodes, table, kinds::TANH_STEPS);
@@ -63,6 +60,7 @@ pub fn mapped_node(nodes: &[u32], node: u32) -> u32
 pub fn mapped_update(nodes: &[u32], update: u32) -> u32
     ensures { result ≡ map_update_within nodes.now update }
 {
+    // 0 or a number and one, before and after: a word of the lent tables.
     if update == 0 {
         return 0;
     }

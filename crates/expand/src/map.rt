@@ -23,6 +23,7 @@ fn mapped_update(memories: &[u32], map: &[u32], i: usize) -> u32
     requires { Mappable map.now memories.now × (i < length memories.now / 2) }
     ensures { result ≡ mapped_word map.now memories.now i }
 {
+    // 0 or a number and one, before and after: a word of the lent tables.
     let update = memories[2 * i + 1] as usize;
     if update == 0 {
         return 0;

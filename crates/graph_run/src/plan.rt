@@ -14,7 +14,7 @@ use memory::lines;
 use memory::lines::{Lines, Memories};
 use memory::signals::Signals;
 
-// The samples of a call. `values` holds the map of nodes when they begin.
+// The samples of a call. `values` holds the map of nodes when they begin. The structs, and beside them the count and the tables that this call alone reads or writes.
 pub fn play(
     block: &Block<'_>,
     expansion: &[u32],

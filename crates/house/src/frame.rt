@@ -64,6 +64,7 @@ pub fn rest_not_zero(bytes: &[u8], number: usize) -> bool
     ensures { result ≡ rest_not_zero bytes.now number }
 {
     let used = block_word(bytes, number, 2) as usize;
+    // A `for`: with `any` over the range a goal is left that the check does not close.
     for place in used..124 {
         if block_word(bytes, number, 3 + place) != 0 {
             return true;

@@ -31,6 +31,7 @@ fn copy_words(bytes: &[u8], at: usize, table: &mut [u32], to: usize, count: usiz
     requires { (at + 4 * count ≤ length bytes.now) × (to + count ≤ length table.old) }
     ensures { table.new ≡ sets table.old to (list_of (words_from bytes.now at) count) }
 {
+    // By index: four bytes make a word.
     for i in 0..count {
         table[to + i] = word_bytes::word(bytes, at + 4 * i);
     }

@@ -28,7 +28,7 @@ fn allowed_in(phase: Phase, step: Step) -> bool
 {
     match phase {
         Phase::Control => in_control(step),
-        Phase::Sample => step.code() != 13,
+        Phase::Sample => !matches!(step, Step::StoreControl { .. }),
     }
 }
 

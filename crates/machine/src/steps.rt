@@ -97,7 +97,8 @@ fn loaded(
     }
 }
 
-// One step: the registers by value, the other tables lent on to where the step writes.
+// One step: the registers by value, the other tables lent on to where the step writes. The registers, the step's words and its phase change from step to step,
+// and the structs beside them stay a run long, so that no further struct of them would last.
 fn step(
     registers: [u32; 16],
     word: u32,

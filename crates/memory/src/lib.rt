@@ -43,6 +43,7 @@ fn write_initial(states: &[u32], held: &mut [u32])
     requires { length held.old ≡ length states.now / 2 }
     ensures { held.new ≡ list_of (initial states.now) (length held.old) }
 {
+    // By index: a record is two words of the table.
     for i in 0..held.len() {
         held[i] = states[2 * i];
     }

@@ -17,6 +17,7 @@ fn invariant_word(flow: &Flow<'_>, work: &[u32], i: usize) -> u32
 {
     let count = flow.operand_count(i);
     if count == 0 {
+        // By the codes of a constant and of a parameter, as the definition `invariant_word` has them.
         return match flow.code(i) {
             1 | 2 => 1,
             _ => 0,

@@ -26,7 +26,8 @@ pub struct Sizes {
 }
 
 // Where each region of the work table begins; what a region holds is in specs/Layout. Offsets, and no slice for each region: `control_table` and `SampleShare`,
-// which the two functions below promise, speak of the one table that document 01 has `compile` be lent.
+// which the two functions below promise, speak of the one table that document 01 has `compile` be lent. That the sizes are few (`Few`) and that a flow is lent with
+// its table (`IsLent`) is asked for here and kept by no ghost field, which would ask it of functions that ask less, as `mark_roots`.
 impl Sizes {
     fn needed(self) -> usize
         ensures { result ≡ needed_at self }

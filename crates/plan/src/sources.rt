@@ -48,7 +48,7 @@ fn sample_source(code: u32) -> Option<Source>
     }
 }
 
-// A node's source in a phase, if it is not computed.
+// A node's source in a phase, if it is not computed. The phase is a flag, and no enum, here and below: the definition `source_code control` has it so.
 #[tactic(auto, unfolding(crate::specs::SourceLaws::source_code))]
 pub fn source_of(flow: &Flow<'_>, work: &[u32], control: bool, i: usize) -> Option<Source>
     requires { IsLent flow.now work.now × (i < flow.now.sizes.nodes) }

@@ -4,6 +4,9 @@
 pub mod lines;
 pub mod store;
 
+ghost use Rattle.std.specs.Prelude.{◌≡◌, ◌≤◌, ◌↔◌, EachIndex, IsTrue, length, slice_index};
+ghost use Rattle.answers.specs.Numbers.{number_of, first_value};
+
 use answers::Refusal;
 use lines::{Answer, Line};
 use std::io;
@@ -19,20 +22,25 @@ pub struct Tally {
     pub differences: u64,
 }
 
-pub fn is_refusal(refusal: Refusal, answer: Answer) -> bool {
+// Whether an answer is the refusal: its number and its value.
+pub fn is_refusal(refusal: Refusal, answer: Answer) -> bool
+    ensures { IsTrue result ↔ ((number_of refusal ≡ answer.number) × (first_value refusal ≡ answer.second)) }
+{
     refusal.number() == answer.number && refusal.value() == answer.second as u64
 }
 
 // Whether a table holds the words that were told, and behind them what `behind` says of each place.
 pub fn holds<F: Fn(usize) -> u32>(table: &[u32], told: &[u32], behind: F) -> bool
     requires { F.IsAlwaysCallable behind }
+    ensures room { IsTrue result → length told.now ≤ length table.now }
+    ensures words { IsTrue result → EachIndex told.now (λ k. slice_index table.now k ≡ slice_index told.now k) }
 {
     for (at, word) in table.iter().enumerate() {
         let expected = match told.get(at) {
             Some(expected) => *expected,
             None => behind(at),
         };
-        // An early end: one word that differs decides it.
+        // A `for`, whose invariant is the clause `words` as far as it has come.
         if *word != expected {
             return false;
         }

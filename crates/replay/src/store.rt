@@ -1,5 +1,5 @@
 // The tables of the block or call that is being read.
-ghost use Rattle.std.specs.Prelude.{◌≤◌, ◌<◌};
+ghost use Rattle.std.specs.Prelude.{◌≡◌, ◌≤◌, ◌<◌, ◌↔◌, IsSome, IsTrue, All, length, replicate};
 
 use crate::lines::Answer;
 use block::{Block, Header};
@@ -38,7 +38,10 @@ const TABLES: [Table; 10] = [
 const ROOM: usize = 16_400;
 
 impl Table {
-    pub fn numbered(number: u32) -> Option<Table> {
+    // The table of a line's number, which `place` gives back: an Option and no TryFrom, since no refusal is told of another number.
+    pub fn numbered(number: u32) -> Option<Table>
+        ensures { IsSome result ↔ (number < 10) }
+    {
         TABLES.get(number as usize).copied()
     }
 
@@ -85,14 +88,18 @@ pub struct Given<'a> {
 }
 
 impl Store {
-    pub fn new() -> Store {
+    pub fn new() -> Store
+        ensures { result.counts ≡ replicate 10 0 }
+    {
         Store {
             words: [0; 164_000],
             counts: [0; 10],
         }
     }
 
-    pub fn clear(&mut self) {
+    pub fn clear(&mut self)
+        ensures { self.new.counts ≡ replicate 10 0 }
+    {
         self.counts = [0; 10];
     }
 
@@ -120,12 +127,16 @@ impl Store {
     }
 
     // Whether every table had room for its words.
-    fn fits(&self) -> bool {
+    fn fits(&self) -> bool
+        ensures { IsTrue result ↔ All (λ count. count ≤ 16400) self.now.counts }
+    {
         self.counts.iter().all(|count| *count <= ROOM)
     }
 
     // The words of a table, none where it had no room for them.
-    pub fn table(&self, table: Table) -> &[u32] {
+    pub fn table(&self, table: Table) -> &[u32]
+        ensures { length result.now ≤ 16400 }
+    {
         let place = table.place();
         let start = place * ROOM;
         self.words
@@ -134,7 +145,9 @@ impl Store {
     }
 
     // The block, where every table had room and the header is whole.
-    pub fn given(&self) -> Option<Given<'_>> {
+    pub fn given(&self) -> Option<Given<'_>>
+        ensures { IsSome result → All (λ count. count ≤ 16400) self.now.counts }
+    {
         if !self.fits() {
             return None;
         }

@@ -65,6 +65,7 @@ impl Lending {
         } else {
             (0, 0, 0)
         };
+        // A word of a line as an Option and no TryFrom: another number says that no table is short.
         let short = match short {
             1 => Some(Lent::Expansion),
             2 => Some(Lent::Steps),

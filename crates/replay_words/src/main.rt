@@ -6,7 +6,8 @@ ghost use Rattle.std.specs.Prelude.{◌≤◌, ◌<◌};
 
 use std::io::{self, ErrorKind, Read};
 
-// The value of a hex digit, 0 of any other byte. Not that of crate replay: there a byte that is no digit is another number, and both programs do what they did on every input.
+// The value of a hex digit, 0 of any other byte. Not that of crate replay: there a byte that is no digit is another number, and both programs do what they
+// did on every input.
 fn digit(byte: u8) -> u32
     ensures { result < 16 }
 {

@@ -48,7 +48,7 @@ fn shorter(code: &Code<'_>, nodes: usize, expansion: &[u32], slots: &Slots<'_>) 
         || slots.spills.len() < kernel.spills as usize
 }
 
-// The refusals of a call, from the lengths and words of its tables.
+// The refusals of a call, from the lengths and words of its tables, which come as `run` is lent them.
 pub fn judge(
     block: &Block<'_>,
     code: &Code<'_>,

@@ -115,7 +115,7 @@ fn start(setup: &Setup<'_>, slots: &mut Slots<'_>, memories: &mut Memories<'_>) 
     )
 }
 
-// The run of so many samples: the control steps, then the samples.
+// The run of so many samples: the control steps, then the samples. The count and the output are this call's alone and stand beside the structs.
 pub fn play<'a>(
     count: usize,
     block: &Block<'a>,

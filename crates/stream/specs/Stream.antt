@@ -1,25 +1,15 @@
 -- Document 01, "House file": what is kept of a file whose blocks are seen one after the other. Definitions alone.
 use Rattle.std.specs.Prelude.{Bool, cond, not, ◌||◌, ◌&&◌, List, ℕ, ◌+◌, ◌-◌, ◌*◌, eqb}
-use Rattle.answers.specs.Numbers.{Answer, accepted, refused, answer_of}
+use Rattle.answers.specs.Numbers.{Answer, accepted, refused}
 use Rattle.answers.specs.Order.{◌⨾◌, refuse, in_order}
 use Rattle.house.specs.Frame.{graph_kind, step_kind, block_count, kind_in, number_in, used_in, wrong_check, other_kind, wrong_used, rest_not_zero, block_answer, frame_answer, payload_length}
 use Rattle.house.specs.Payload.{rendering_in, samples_at}
-use Rattle.stream.specs.declared.Framed as Code
+use Rattle.stream.specs.declared.Framed.{Framed}
 
 -- the number of an answer, 0 where it is accepted
 abbrev pub fault_of : Answer Unit → ℕ
 fault_of (accepted u) = 0
 fault_of (refused n vs) = n
-
--- what is kept, with the answer so far as its number
-pub record Framed : Type 0 where
-  pub blocks : ℕ
-  pub kind : ℕ
-  pub used : ℕ
-  pub fault : ℕ
-
-abbrev pub kept : Code.Framed → Framed
-kept f = record { blocks = f.blocks; kind = f.kind; used = f.used; fault = fault_of (answer_of f.judged) }
 
 -- WHAT IS KEPT of the whole blocks seen so far, where the reader takes the kinds from `low` to `high`: their count, the first one's kind, the used count of
 -- the last, and the number of their first fault. "Blocks are judged in order": here the last one seen is judged as the last of the file

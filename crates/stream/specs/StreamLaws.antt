@@ -19,7 +19,8 @@ use Rattle.house.specs.ReadBack.{word_behind}
 use Rattle.house.specs.Frame.{graph_kind, step_kind, block_count, block_word, kind_in, number_in, used_in, payload_in, wrong_check, other_kind, wrong_kind, wrong_used, unused_word, rest_not_zero, bad_frame, block_answer, wrong_length, frame_answer, payload_length, payload_word}
 use Rattle.house.specs.Payload.{rendering_in, samples_at}
 use Rattle.house.specs.Read.{read_rendering_answer}
-use Rattle.stream.specs.Stream.{Framed, fault_of, framed_of, first_kind, short_before, last_bad, last_answer, next_fault, one_more, answer_in, payload_words, rendering_frame, rendering_answer_in}
+use Rattle.stream.specs.declared.Framed.{Framed}
+use Rattle.stream.specs.Stream.{fault_of, framed_of, first_kind, short_before, last_bad, last_answer, next_fault, one_more, answer_in, payload_words, rendering_frame, rendering_answer_in}
 
 -- ---- answers
 

@@ -1,20 +1,18 @@
 -- The ways out of the code, each from the tests that lead to it. Assumes nothing.
-use Rattle.std.specs.Prelude.{◌≡◌, refl, ◌⊎◌, Bool, true, false, not, ◌&&◌, List, ℕ, ◌+◌, ◌-◌, ◌*◌, ◌≤◌, ◌<◌, eqb, Result, Ok, Err, IsErrAnd}
+use Rattle.std.specs.Prelude.{◌≡◌, refl, ◌⊎◌, Bool, true, false, not, ◌&&◌, List, ℕ, ◌+◌, ◌-◌, ◌*◌, ◌≤◌, ◌<◌, eqb, Result, Ok, Err}
 use Rattle.std.proofs.Math.Path.{sym, ap}
 use Rattle.std.proofs.Common.{◌∙◌, inl, inr, arith}
 use borrow.Author.Tests.{lt-ltb, le-ltb, eq-eqb, ne_eqb}
 use Rattle.tables.specs.Tests.{differs, differs_not, or_left, or_right, or_none, cond_true, cond_false}
 use Rattle.tables.specs.Lists.{list_of}
-use Rattle.std.proofs.lemmas.Result.{err_from_is_err_and}
 use Rattle.answers.specs.declared.Refusal.{Refusal}
-use Rattle.answers.specs.declared.Refusal.TheVariants as R
 use Rattle.answers.specs.Numbers.{number_of, answer_of}
 use Rattle.answers.specs.OrderLaws.{refuse_stop, refuse_pass, refuse_on, refuse_off}
 use Rattle.house.specs.Bytes.{wrapping_sum, all_ones}
 use Rattle.house.specs.Frame.{block_word, kind_in, number_in, wrong_check, other_kind, wrong_used, rest_not_zero, bad_block, judged_block}
 use Rattle.house.specs.Payload.{samples_at}
-use Rattle.stream.specs.declared.Framed as Code
-use Rattle.stream.specs.Stream.{Framed, kept, fault_of, first_kind, short_before, last_bad, last_answer, next_fault, one_more, answer_in, payload_words, rendering_answer_in}
+use Rattle.stream.specs.declared.Framed.{Framed}
+use Rattle.stream.specs.Stream.{fault_of, first_kind, short_before, last_bad, last_answer, next_fault, one_more, answer_in, payload_words, rendering_answer_in}
 use Rattle.stream.specs.StreamLaws.{framed_same}
 
 -- ---- the kind of the first block
@@ -80,40 +78,6 @@ pub short_some : (framed : Framed) → (framed.blocks ≡ 0 → ⊥) → not (eq
 unfolding short_before
 short_some framed n = sym (ap (λ (t : Bool). not t && not (eqb framed.used 124)) (ne_eqb framed.blocks 0 n))
 
--- ---- an answer as its number: that of no refusal is 0
-told_refusal : (r : Refusal) → number_of r ≡ 0 → ⊥
-told_refusal R.Malformed e = omega arith
-told_refusal R.UnknownVersion e = omega arith
-told_refusal R.NetworkNotAllowed e = omega arith
-told_refusal R.NetworkFlagClear e = omega arith
-told_refusal R.NeedsVersionTwo e = omega arith
-told_refusal R.TooLarge e = omega arith
-told_refusal (R.BadParameter index) e = omega arith
-told_refusal R.MissingOutput e = omega arith
-told_refusal (R.BadOperand index) e = omega arith
-told_refusal (R.BadNode index) e = omega arith
-told_refusal (R.BadState index) e = omega arith
-told_refusal (R.BadDelay index) e = omega arith
-told_refusal R.TableTooShort e = omega arith
-told_refusal R.RegistersLocked e = omega arith
-told_refusal R.BadStepList e = omega arith
-told_refusal R.SizesDiffer e = omega arith
-told_refusal R.UnknownParameter e = omega arith
-told_refusal R.ValueOutOfRange e = omega arith
-told_refusal (R.StepRefused position) e = omega arith
-told_refusal R.WrongBlockCheck e = omega arith
-told_refusal R.BadFrame e = omega arith
-
-pub fault_ok : {v : Result Unit Refusal} {u : Unit} → v ≡ Ok u → fault_of (answer_of v) ≡ 0
-fault_ok e = rw e
-
-pub fault_err : {v : Result Unit Refusal} {r : Refusal} → v ≡ Err r → fault_of (answer_of v) ≡ 0 → ⊥
-fault_err {r = r} e z = told_refusal r (rw e at z)
-
--- what `?` returns for a refusal has its number
-pub fault_handed : {v : Result Unit Refusal} {r : Refusal} (w : Result Unit Refusal) → v ≡ Err r → IsErrAnd w (λ y. y ≡ r) → fault_of (answer_of w) ≡ fault_of (answer_of v)
-fault_handed w e h = let p = err_from_is_err_and w h in rw (e, p.1, p.2)
-
 -- ---- the first fault
 module _ (low high : ℕ) (framed : Framed) (first : ℕ) (block : List ℕ) where
   pub fault_kept : (framed.fault ≡ 0 → ⊥) → framed.fault ≡ next_fault low high framed first block
@@ -129,23 +93,20 @@ module _ (low high : ℕ) (framed : Framed) (first : ℕ) (block : List ℕ) whe
     unfolding next_fault
     fault_own r h e = e ∙ sym (cond_true (eqb framed.fault 0) _ framed.fault (eq-eqb framed.fault 0 z) ∙ ap fault_of (refuse_pass 21 _ h))
 
--- the block's own, as `house` judges a block
+-- its own fault as the number of what `house` answers to it
 pub last_is : (low high first number : ℕ) (block : List ℕ) → judged_block low high first number block 0 ≡ last_answer low high first number block
 unfolding judged_block bad_block last_answer last_bad
 last_is low high first number block = refl
 
--- behind an answer v so far
-module _ (low high : ℕ) (framed : Code.Framed) (first : ℕ) (block : List ℕ) where
-  pub judged_kept : (w : Result Unit Refusal) (r : Refusal) → framed.judged ≡ Err r → IsErrAnd w (λ y. y ≡ r) → fault_of (answer_of w) ≡ next_fault low high (kept framed) first block
-  judged_kept w r e h = fault_handed w e h ∙ fault_kept low high (kept framed) first block (fault_err e)
+module _ (low high first number : ℕ) (block : List ℕ) (w : Result Unit Refusal) (e : answer_of w ≡ judged_block low high first number block 0) where
+  last_told : fault_of (answer_of w) ≡ fault_of (last_answer low high first number block)
+  last_told = ap fault_of (e ∙ last_is low high first number block)
 
-  pub judged_before : (u : Unit) → framed.judged ≡ Ok u → short_before (kept framed) ≡ true → 21 ≡ next_fault low high (kept framed) first block
-  judged_before u e h = fault_before low high (kept framed) first block (fault_ok e) h
+  pub last_ok : {u : Unit} → w ≡ Ok u → 0 ≡ fault_of (last_answer low high first number block)
+  last_ok h = rw h at last_told
 
-  pub judged_own : (u : Unit) (w : Result Unit Refusal) → framed.judged ≡ Ok u → short_before (kept framed) ≡ false
-      → answer_of w ≡ judged_block low high first framed.blocks block 0 → fault_of (answer_of w) ≡ next_fault low high (kept framed) first block
-  judged_own u w e h f =
-      fault_own low high (kept framed) first block (fault_ok e) _ h (ap fault_of (f ∙ last_is low high first framed.blocks block))
+  pub last_err : {r : Refusal} (n : ℕ) → n ≡ number_of r → w ≡ Err r → n ≡ fault_of (last_answer low high first number block)
+  last_err n f h = f ∙ (rw h at last_told)
 
 pub next_done : (low high : ℕ) (framed : Framed) (block : List ℕ) (k u f : ℕ) → k ≡ first_kind framed block → u ≡ block_word block 0 2
     → f ≡ next_fault low high framed k block → record { blocks = framed.blocks + 1; kind = k; used = u; fault = f } ≡ one_more low high framed block

@@ -26,6 +26,7 @@ pub fn equal_words(a: &[u8], b: &[u8], from: usize) -> usize
     requires { (length a.now ≡ 512) × (length b.now ≡ 512) × (from ≤ 1) }
     ensures { result ≡ first_of (words_differ a.now b.now from) (124 - from) }
 {
+    // A `for`: with `find` over the range a goal is left that the check does not close.
     for i in 0..124 - from {
         let place = from + i;
         if payload::first_word(a, place) != payload::first_word(b, place) {

@@ -6,7 +6,6 @@ mod compare;
 
 ghost use Rattle.std.specs.Prelude.{◌≡◌, List, [], ◌++◌, ℕ, ◌+◌, ◌*◌, ◌≤◌, ◌<◌, min, length};
 ghost use Rattle.std.proofs.lemmas.List.Edits.{sets};
-ghost use Rattle.answers.specs.Numbers.{answer_of};
 ghost use Rattle.house.specs.Bytes.{bytes_of};
 ghost use Rattle.house.specs.File.{padded, block_words};
 ghost use Rattle.house.specs.Payload.{kind_of};
@@ -15,29 +14,31 @@ use answers::Refusal;
 use house::frame::{self, Kinds};
 use house::{Engine, blocks};
 
-// What is kept of the whole blocks seen so far: their count, the first one's kind, the used count of the last, and how they are judged, the last one as
-// the last of the file.
+// What is kept of the whole blocks seen so far: their count, the first one's kind, the used count of the last, and the number of the first fault, where the
+// last one is judged as the last of the file.
 #[derive(Clone, Copy, Debug, PartialEq, Eq)]
 pub struct Framed {
     pub blocks: usize,
     pub kind: u32,
     pub used: u32,
-    pub judged: Result<(), Refusal>,
+    // A number, no Result, for `one_more` and `answer_in` are promised of every value: 0 where all is accepted, else the number of document 01.
+    pub fault: u32,
 }
 
+// A block is 512 bytes by a `requires`, and no type of arrays: a program reads it into a part of its buffer.
 impl Framed {
     ghost use Rattle.house.specs.Frame.{graph_kind, step_kind, frame_answer, payload_length, payload_word};
-    ghost use Rattle.stream.specs.Stream.{kept, fault_of, framed_of, first_kind, short_before, next_fault, one_more, answer_in, payload_words, rendering_frame, rendering_answer_in};
+    ghost use Rattle.stream.specs.Stream.{fault_of, framed_of, first_kind, short_before, next_fault, one_more, answer_in, payload_words, rendering_frame, rendering_answer_in};
 
     // Before the first block.
     pub fn new() -> Framed
-        ensures { (low high : ℕ) → kept result ≡ framed_of low high [] }
+        ensures { (low high : ℕ) → result ≡ framed_of low high [] }
     {
         Framed {
             blocks: 0,
             kind: 0,
             used: 0,
-            judged: Ok(()),
+            fault: 0,
         }
     }
 
@@ -45,7 +46,7 @@ impl Framed {
     #[tactic(auto, unfolding(crate::specs::Stream::first_kind))]
     fn first_kind(self, block: &[u8]) -> u32
         requires { length block.now ≡ 512 }
-        ensures { result ≡ first_kind (kept self) block.now }
+        ensures { result ≡ first_kind self block.now }
     {
         if self.blocks == 0 {
             frame::block_word(block, 0, 0)
@@ -57,73 +58,80 @@ impl Framed {
     // Whether the block before is not the last any more, and does not use all its payload words.
     #[tactic(auto, unfolding(crate::specs::Stream::short_before))]
     fn short_before(self) -> bool
-        ensures { result ≡ short_before (kept self) }
+        ensures { result ≡ short_before self }
     {
         self.blocks != 0 && self.used != 124
     }
 
-    // The first fault with this block: the one so far, else 21 for the block before, else the block's own.
-    #[tactic(auto, using(crate::specs::Ways::judged_kept, crate::specs::Ways::judged_before, crate::specs::Ways::judged_own))]
-    fn judged_with(self, first: u32, block: &[u8], kinds: Kinds) -> Result<(), Refusal>
+    // The number of the first fault with this block: the one so far, else 21 for the block before, else the block's own.
+    fn next_fault(self, first: u32, block: &[u8], kinds: Kinds) -> u32
         requires { length block.now ≡ 512 }
-        ensures { fault_of (answer_of result) ≡ next_fault kinds.low kinds.high (kept self) first block.now }
+        ensures { result ≡ next_fault kinds.low kinds.high self first block.now }
     {
-        self.judged?;
-        if self.short_before() {
-            return Err(Refusal::BadFrame);
+        if self.fault != 0 {
+            return self.fault;
         }
-        frame::judge_block(block, 0, self.blocks, first, kinds)
+        if self.short_before() {
+            return Refusal::BadFrame.number();
+        }
+        match frame::judge_block(block, 0, self.blocks, first, kinds) {
+            Ok(()) => 0,
+            Err(refusal) => refusal.number(),
+        }
     }
 
     // One block more, for a reader that takes these kinds. The bound on the count leaves room for the count of payload words.
     pub fn next(self, block: &[u8], kinds: Kinds) -> Framed
         requires { (length block.now ≡ 512) × (self.blocks < 1099511627776) }
-        ensures kept { kept result ≡ one_more kinds.low kinds.high (kept self) block.now }
-        ensures of_bytes { (bytes : List ℕ) → length bytes ≡ 512 * self.blocks → kept self ≡ framed_of kinds.low kinds.high bytes
-            → kept result ≡ framed_of kinds.low kinds.high (bytes ++ block.now) }
+        ensures kept { result ≡ one_more kinds.low kinds.high self block.now }
+        ensures of_bytes { (bytes : List ℕ) → length bytes ≡ 512 * self.blocks → self ≡ framed_of kinds.low kinds.high bytes
+            → result ≡ framed_of kinds.low kinds.high (bytes ++ block.now) }
     {
         let kind = self.first_kind(block);
         Framed {
             blocks: self.blocks + 1,
             kind,
             used: frame::block_word(block, 0, 2),
-            judged: self.judged_with(kind, block, kinds),
+            fault: self.next_fault(kind, block, kinds),
         }
     }
 
-    // The frame's answer: `left` bytes are left behind the last whole block.
-    pub fn answer(self, left: usize) -> Result<(), Refusal>
-        ensures number { fault_of (answer_of result) ≡ answer_in (kept self) left }
-        ensures of_bytes { (low high : ℕ) (bytes rest : List ℕ) → length bytes ≡ 512 * self.blocks → kept self ≡ framed_of low high bytes → length rest ≡ left
-            → left < 512 → fault_of (answer_of result) ≡ fault_of (frame_answer low high (bytes ++ rest)) }
+    // The number of the frame's answer, 0 where it is accepted: `left` bytes are left behind the last whole block.
+    pub fn answer(self, left: usize) -> u32
+        ensures kept { result ≡ answer_in self left }
+        ensures of_bytes { (low high : ℕ) (bytes rest : List ℕ) → length bytes ≡ 512 * self.blocks → self ≡ framed_of low high bytes → length rest ≡ left
+            → left < 512 → result ≡ fault_of (frame_answer low high (bytes ++ rest)) }
     {
         if self.blocks == 0 || left != 0 {
-            return Err(Refusal::BadFrame);
+            return Refusal::BadFrame.number();
         }
-        self.judged
+        self.fault
     }
 
     // How many words the payload has.
     pub fn payload_words(self) -> usize
         requires { self.blocks ≤ 1099511627776 }
-        ensures kept { result ≡ payload_words (kept self) }
-        ensures of_bytes { (low high : ℕ) (bytes : List ℕ) → kept self ≡ framed_of low high bytes → result ≡ payload_length bytes }
+        ensures kept { result ≡ payload_words self }
+        ensures of_bytes { (low high : ℕ) (bytes : List ℕ) → self ≡ framed_of low high bytes → result ≡ payload_length bytes }
     {
         124 * self.blocks.saturating_sub(1) + self.used as usize
     }
 
-    // The answer to a rendering's frame: `samples` is the first word of its payload.
-    pub fn rendering_answer(self, left: usize, samples: u32) -> Result<(), Refusal>
+    // The number of the answer to a rendering's frame, 0 where it is accepted: `samples` is the first word of its payload.
+    pub fn rendering_answer(self, left: usize, samples: u32) -> u32
         requires { self.blocks ≤ 1099511627776 }
-        ensures number { fault_of (answer_of result) ≡ rendering_answer_in (kept self) left samples }
-        ensures of_bytes { (bytes rest : List ℕ) → length bytes ≡ 512 * self.blocks → kept self ≡ framed_of graph_kind step_kind bytes → length rest ≡ left
-            → left < 512 → samples ≡ payload_word bytes 0 → fault_of (answer_of result) ≡ fault_of (rendering_frame (bytes ++ rest)) }
+        ensures kept { result ≡ rendering_answer_in self left samples }
+        ensures of_bytes { (bytes rest : List ℕ) → length bytes ≡ 512 * self.blocks → self ≡ framed_of graph_kind step_kind bytes → length rest ≡ left
+            → left < 512 → samples ≡ payload_word bytes 0 → result ≡ fault_of (rendering_frame (bytes ++ rest)) }
     {
-        self.answer(left)?;
-        if self.payload_words() != 1 + samples as usize {
-            return Err(Refusal::BadFrame);
+        let fault = self.answer(left);
+        if fault != 0 {
+            return fault;
         }
-        Ok(())
+        if self.payload_words() != 1 + samples as usize {
+            return Refusal::BadFrame.number();
+        }
+        0
     }
 }
 

@@ -4,8 +4,8 @@ use Rattle.allocate.specs.Desk.{Choice}
 use Rattle.allocate.specs.Ready.{kept_by, fetched_kept, room_after}
 use Rattle.allocate.proofs.Desk.fetch_both.Goals as goal
 
-pub fetch-requires-2 : goal.fetch-requires-2
-fetch-requires-2 c =
+pub fetch-second-requires : goal.fetch-second-requires
+fetch-second-requires c =
     let q = c.requires in
-    let k = kept_by _ _ _ _ _ (ap (λ (x : Choice). x.desk) c.in_ok-first.ensures.done) (fetched_kept _ _ q.ready.0 _ _ _ _ q.ready.1.0.0) in
+    let k = kept_by _ _ _ _ _ (ap (λ (x : Choice). x.desk) c.fetch-first.ensures.done) (fetched_kept _ _ q.ready.0 _ _ _ _ q.ready.1.0.0) in
     record { ready = (k.0, (q.ready.1.0.1, q.ready.1.1)); room = room_after _ 2 2 _ _ q.room k.1; locks = omega arith }
