@@ -52,7 +52,18 @@ fn judge(
     if short_work(code.kernel, nodes, block.counts(), work) {
         return Err(Refusal::TableTooShort);
     }
-    step_run::judge(block, code, signals, expansion, slots, memories, output)
+    step_run::judge(
+        block,
+        code,
+        signals,
+        expansion,
+        slots.control,
+        slots.spills,
+        memories.held,
+        memories.area,
+        memories.cursors,
+        output,
+    )
 }
 
 // The check, and the run where it passes the list.

@@ -16,7 +16,6 @@ use answers::Refusal;
 use block::{Block, kinds};
 use memory::lines::Memories;
 use memory::signals::Signals;
-use memory::sizes;
 
 // The answer of a call, from the lengths and words of its tables.
 fn judge(
@@ -34,7 +33,7 @@ fn judge(
     if expansion.len() < 3 * length || values.len() < length {
         return Err(Refusal::TableTooShort);
     }
-    if !sizes::run_fits(block, signals, memories, output) {
+    if !memories.fit_run(block, signals, output) {
         return Err(Refusal::SizesDiffer);
     }
     Ok(())

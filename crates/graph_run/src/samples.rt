@@ -8,7 +8,7 @@ ghost use Rattle.graph_run.specs.Ready.{the_graph, Ready, Lent};
 use crate::sample;
 use crate::sample::Graph;
 use memory::lines::Memories;
-use memory::signals::Signals;
+use memory::signals::{Given, Signals, network_word};
 
 // An output word for each input word. There are as many values as nodes, and they are only needed within a sample.
 pub fn samples(
@@ -25,7 +25,12 @@ pub fn samples(
     ensures same_tables { KeepsTables memories.old memories.new }
 {
     for t in 0..signals.input.len() {
-        let given = signals.given(flag, t);
+        let network = network_word(flag, signals.network, t);
+        let given = Given {
+            audio: signals.input[t],
+            network,
+            settings: signals.settings,
+        };
         output[t] = sample::sample(graph, &given, values, memories);
     }
 }

@@ -55,7 +55,7 @@ pub fn reset(block: &Block<'_>, memories: &mut Memories<'_>) -> Result<(), Refus
     ensures same_tables { KeepsTables memories.old memories.new }
 {
     block.validate()?;
-    if !sizes::memories_fit(block, memories) {
+    if !memories.fit(block) {
         return Err(Refusal::SizesDiffer);
     }
     write_initial(block.states, memories.held);

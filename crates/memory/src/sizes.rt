@@ -4,7 +4,7 @@ ghost use Rattle.tables.specs.Loops.{sum};
 ghost use Rattle.block.specs.declared.Header.{Header};
 ghost use Rattle.block.specs.Block.{block, the_block, delay_length};
 ghost use Rattle.memory.specs.Sizes.{memories_fit, cursors_below, signals_fit, run_fits};
-ghost use Rattle.memory.specs.Lent.{the_memories};
+ghost use Rattle.memory.specs.Lines.{memories};
 
 use crate::lines::Memories;
 use crate::signals::Signals;
@@ -24,13 +24,14 @@ fn area_fits(delays: &[u32], area: &[u32]) -> bool
     area.len() == total
 }
 
-// States, cursors and area have the block's size.
-pub fn memories_fit(block: &Block<'_>, memories: &Memories<'_>) -> bool
-    ensures { result ≡ memories_fit (the_block block.now) (the_memories memories.now) }
+// States, cursors and area have the block's size. Here and in `run_fits` slices, so that who may only read the memories can ask; who has them as one struct asks
+// it, below.
+pub fn memories_fit(block: &Block<'_>, held: &[u32], area: &[u32], cursors: &[u32]) -> bool
+    ensures { result ≡ memories_fit (the_block block.now) (memories held.now area.now cursors.now) }
 {
-    memories.held.len() == block.states.len() / 2
-        && memories.cursors.len() == block.delays.len() / 2
-        && area_fits(block.delays, memories.area)
+    held.len() == block.states.len() / 2
+        && cursors.len() == block.delays.len() / 2
+        && area_fits(block.delays, area)
 }
 
 // Every cursor is below its delay's length.
@@ -54,13 +55,31 @@ fn signals_fit(header: Header, signals: &Signals<'_>, output: &[u32]) -> bool
 pub fn run_fits(
     block: &Block<'_>,
     signals: &Signals<'_>,
-    memories: &Memories<'_>,
+    held: &[u32],
+    area: &[u32],
+    cursors: &[u32],
     output: &[u32],
 ) -> bool
-    ensures { result ≡ run_fits (the_block block.now) signals.now.settings.now (the_memories memories.now) signals.now.input.now output.now signals.now.network.now }
+    ensures { result ≡ run_fits (the_block block.now) signals.now.settings.now (memories held.now area.now cursors.now) signals.now.input.now output.now signals.now.network.now }
 {
     signals_fit(block.header, signals, output)
         && signals.settings.len() == block.parameters.len() / 3
-        && memories_fit(block, memories)
-        && cursors_below(block.delays, memories.cursors)
+        && memories_fit(block, held, area, cursors)
+        && cursors_below(block.delays, cursors)
+}
+
+impl Memories<'_> {
+    ghost use Rattle.memory.specs.Lent.{the_memories};
+
+    pub fn fit(&self, block: &Block<'_>) -> bool
+        ensures { result ≡ memories_fit (the_block block.now) (the_memories self.now) }
+    {
+        memories_fit(block, self.held, self.area, self.cursors)
+    }
+
+    pub fn fit_run(&self, block: &Block<'_>, signals: &Signals<'_>, output: &[u32]) -> bool
+        ensures { result ≡ run_fits (the_block block.now) signals.now.settings.now (the_memories self.now) signals.now.input.now output.now signals.now.network.now }
+    {
+        run_fits(block, signals, self.held, self.area, self.cursors, output)
+    }
 }

@@ -135,7 +135,7 @@ impl Flow<'_> {
     }
 
     // How many operands a node has: none, unless it is computed.
-    fn operand_count(&self, i: usize) -> u32
+    pub fn operand_count(&self, i: usize) -> u32
         requires { 3 * i < length self.now.nodes.now }
         ensures { result ≡ Words.operand_count self.now.nodes.now i }
     {

@@ -138,10 +138,12 @@ impl Store {
         ensures { length result.now ≤ 16400 }
     {
         let place = table.place();
+        let count = self.counts[place];
+        if ROOM < count {
+            return &[];
+        }
         let start = place * ROOM;
-        self.words
-            .get(start..start + self.counts[place].min(ROOM))
-            .unwrap_or(&[])
+        self.words.get(start..start + count).unwrap_or(&[])
     }
 
     // The block, where every table had room and the header is whole.

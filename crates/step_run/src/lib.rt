@@ -7,9 +7,11 @@ mod samples;
 ghost use Rattle.std.specs.Prelude.{◌≡◌, [], ◌≤◌, length};
 ghost use Rattle.answers.specs.Numbers.{accepted, answer_of};
 ghost use Rattle.block.specs.Block.{the_block};
+ghost use Rattle.memory.specs.Lines.{memories};
+ghost use Rattle.memory.specs.Signals.{rendered};
 ghost use Rattle.memory.specs.Lent.{the_signals, KeepsTables};
 ghost use Rattle.machine.specs.Tables.{KeepsSlots};
-ghost use Rattle.step_run.specs.Run.{outcome, shorter, run_judged, run_call};
+ghost use Rattle.step_run.specs.Run.{tables, outcome, shorter, run_judged, run_call};
 ghost use Rattle.step_run.specs.Setup.{the_code, the_tables};
 
 use answers::Refusal;
@@ -36,20 +38,59 @@ pub struct Ran {
 
 // A table shorter than its declared count, or the expansion than three words for each of so many nodes. Sums of declared counts need 64 bits.
 #[tactic(auto, unfolding(crate::specs::Run::shorter))]
-fn shorter(code: &Code<'_>, nodes: usize, expansion: &[u32], slots: &Slots<'_>) -> bool
+fn shorter(
+    code: &Code<'_>,
+    nodes: usize,
+    expansion: &[u32],
+    control: &[u32],
+    spills: &[u32],
+) -> bool
     requires { nodes ≤ 65537 }
-    ensures { result ≡ shorter code.now.kernel nodes (length expansion.now) (length code.now.steps.now) (length code.now.instructions.now) (length slots.now.control.now) (length slots.now.spills.now) }
+    ensures { result ≡ shorter code.now.kernel nodes (length expansion.now) (length code.now.steps.now) (length code.now.instructions.now) (length control.now) (length spills.now) }
 {
     let kernel = code.kernel;
     expansion.len() < 3 * nodes
         || code.steps.len() < 2 * (kernel.control as usize + kernel.sample as usize)
         || code.instructions.len() < 2 * (kernel.instructions as usize)
-        || slots.control.len() < kernel.slots as usize
-        || slots.spills.len() < kernel.spills as usize
+        || control.len() < kernel.slots as usize
+        || spills.len() < kernel.spills as usize
 }
 
-// The refusals of a call, from the lengths and words of its tables, which come as `run` is lent them.
+// The refusals of a call, from the lengths and words of its tables: slices that are read, so that they can be asked for where no table may be written.
 pub fn judge(
+    block: &Block<'_>,
+    code: &Code<'_>,
+    signals: &Signals<'_>,
+    expansion: &[u32],
+    control: &[u32],
+    spills: &[u32],
+    held: &[u32],
+    area: &[u32],
+    cursors: &[u32],
+    output: &[u32],
+) -> Result<(), Refusal>
+    ensures { answer_of result ≡ run_judged (the_block block.now) (the_code code.now) (the_signals signals.now) (tables expansion.now control.now spills.now (rendered output.now (memories held.now area.now cursors.now)) []) }
+{
+    block.validate()?;
+    let count = kinds::expanded_length(block.nodes);
+    if shorter(code, count, expansion, control, spills) {
+        return Err(Refusal::TableTooShort);
+    }
+    if !code.list_may_run(
+        block.parameters.len() / 3,
+        block.states.len() / 2,
+        block.delays.len() / 2,
+    ) {
+        return Err(Refusal::BadStepList);
+    }
+    if !sizes::run_fits(block, signals, held, area, cursors, output) {
+        return Err(Refusal::SizesDiffer);
+    }
+    Ok(())
+}
+
+// The same of the tables as `run` is lent them.
+fn judge_lent(
     block: &Block<'_>,
     code: &Code<'_>,
     signals: &Signals<'_>,
@@ -60,22 +101,18 @@ pub fn judge(
 ) -> Result<(), Refusal>
     ensures { answer_of result ≡ run_judged (the_block block.now) (the_code code.now) (the_signals signals.now) (the_tables expansion.now slots.now memories.now output.now []) }
 {
-    block.validate()?;
-    let count = kinds::expanded_length(block.nodes);
-    if shorter(code, count, expansion, slots) {
-        return Err(Refusal::TableTooShort);
-    }
-    if !code.list_may_run(
-        block.parameters.len() / 3,
-        block.states.len() / 2,
-        block.delays.len() / 2,
-    ) {
-        return Err(Refusal::BadStepList);
-    }
-    if !sizes::run_fits(block, signals, memories, output) {
-        return Err(Refusal::SizesDiffer);
-    }
-    Ok(())
+    judge(
+        block,
+        code,
+        signals,
+        expansion,
+        slots.control,
+        slots.spills,
+        memories.held,
+        memories.area,
+        memories.cursors,
+        output,
+    )
 }
 
 // A call that is accepted: the expansion, and as many samples as the budget has room for. With none only the expansion is written.
@@ -134,7 +171,7 @@ pub fn run(
     ensures same_slots { KeepsSlots slots.old slots.new }
     ensures same_tables { KeepsTables memories.old memories.new }
 {
-    if let Err(refusal) = judge(block, code, signals, expansion, slots, memories, output) {
+    if let Err(refusal) = judge_lent(block, code, signals, expansion, slots, memories, output) {
         return Ran {
             answer: Err(refusal),
             registers,

@@ -10,6 +10,7 @@ ghost use Rattle.step_run.specs.SampleLaws.{hushed};
 ghost use Rattle.step_run.specs.Setup.{the_setup, setup_for, the_tables, begun, ControlListed, SamplesListed, IsPlayable};
 
 use block::Block;
+use block::limits::MOST_DELAYS;
 use kernel::{Code, Phase};
 use machine::steps::{self, Program, Slots};
 use memory::lines::{self, Lines, Memories};
@@ -131,7 +132,8 @@ pub fn play<'a>(
     ensures same_tables { KeepsTables memories.old memories.new }
 {
     let delays = block.delays;
-    let bases = lines::line_bases(delays);
+    let mut bases = [0; MOST_DELAYS];
+    lines::fill_bases(delays, &mut bases);
     let lines = Lines {
         delays,
         bases: &bases,

@@ -4,10 +4,10 @@
 
 ghost use Rattle.std.specs.Prelude.{◌≡◌, ◌||◌};
 ghost use Rattle.std.specs.Float.Ieee.Scale.{finite};
-ghost use Rattle.words.specs.Operations.{added, subtracted, multiplied, is_nan, is_less, chosen, lesser, greater, negated, absolute, wrapping_difference, operate, is_finite, within, valid_span, in_range, span_is_valid};
+ghost use Rattle.words.specs.Operations.{word_of, added, subtracted, multiplied, is_nan, is_less, chosen, lesser, greater, negated, absolute, wrapping_difference, operate, is_finite, within, valid_span, in_range, span_is_valid};
 
-// Every NaN pattern is read as the one NaN, and NaN is written as one word, 0x7fc00000.
-use std::num::{f32_from_bits_with_nan as float_of, f32_to_bits_with_nan as word_of};
+// Every NaN pattern is read as the one NaN.
+use std::num::f32_from_bits_with_nan as float_of;
 
 const SIGN: u32 = 0x8000_0000;
 
@@ -29,13 +29,24 @@ fn has_nan(lhs: u32, rhs: u32) -> bool
     is_nan(lhs) || is_nan(rhs)
 }
 
+// A processor's NaN has whatever sign and payload; ours has one word.
+#[tactic(auto, using(crate::specs::Laws::unequal_nan, crate::specs::Laws::equal_number), unfolding(crate::specs::Operations::word_of))]
+fn to_word(x: f32) -> u32
+    ensures { result ≡ word_of x }
+{
+    if x != x {
+        return NAN;
+    }
+    f32::to_bits(x)
+}
+
 pub fn add(lhs: u32, rhs: u32) -> u32
     ensures { result ≡ added lhs rhs }
 {
     if has_nan(lhs, rhs) {
         return NAN;
     }
-    word_of(f32::from_bits(lhs) + f32::from_bits(rhs))
+    to_word(f32::from_bits(lhs) + f32::from_bits(rhs))
 }
 
 pub fn sub(lhs: u32, rhs: u32) -> u32
@@ -44,7 +55,7 @@ pub fn sub(lhs: u32, rhs: u32) -> u32
     if has_nan(lhs, rhs) {
         return NAN;
     }
-    word_of(f32::from_bits(lhs) - f32::from_bits(rhs))
+    to_word(f32::from_bits(lhs) - f32::from_bits(rhs))
 }
 
 pub fn mul(lhs: u32, rhs: u32) -> u32
@@ -53,7 +64,7 @@ pub fn mul(lhs: u32, rhs: u32) -> u32
     if has_nan(lhs, rhs) {
         return NAN;
     }
-    word_of(f32::from_bits(lhs) * f32::from_bits(rhs))
+    to_word(f32::from_bits(lhs) * f32::from_bits(rhs))
 }
 
 fn is_less(lhs: u32, rhs: u32) -> bool
@@ -127,25 +138,32 @@ pub fn operate(code: u32, lhs: u32, rhs: u32) -> u32
     }
 }
 
+// Between the infinities, where no NaN is. By comparisons: std's `is_finite` subtracts, which raises the processor's flag of an invalid operation at an infinity.
+fn is_finite_float(x: f32) -> bool
+    ensures { result ≡ finite x }
+{
+    f32::NEG_INFINITY < x && x < f32::INFINITY
+}
+
 pub fn is_finite(word: u32) -> bool
     ensures { result ≡ is_finite word }
 {
-    float_of(word).is_finite()
+    is_finite_float(float_of(word))
 }
 
 fn is_within(min: f32, max: f32, value: f32) -> bool
     ensures { result ≡ within min max value }
 {
-    value.is_finite() && min <= value && value <= max
+    is_finite_float(value) && min <= value && value <= max
 }
 
 fn is_valid_span(min: f32, max: f32, default: f32) -> bool
     ensures { result ≡ valid_span min max default }
 {
-    min.is_finite()
-        && max.is_finite()
+    is_finite_float(min)
+        && is_finite_float(max)
         && !(min >= max)
-        && (max - min).is_finite()
+        && is_finite_float(max - min)
         && is_within(min, max, default)
 }
 

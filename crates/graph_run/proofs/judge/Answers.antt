@@ -13,8 +13,8 @@ returns-then-expansion-length c =
       | then-expansion-length-via-else-expansion-length+then-values-length w ↦ short_values _ _ _ _ c.validate.ensures c.in_ok-validate.was _ c.expanded_length-length.ensures w.if-values-length.true
     ]
 
-pub returns-then-not-run_fits : goal.returns-then-not-run_fits
-returns-then-not-run_fits c = sizes_differ _ _ _ _ c.validate.ensures c.in_ok-validate.was _ c.expanded_length-length.ensures c.if-expansion-length.false c.if-values-length.false _ c.run_fits.ensures c.if-not-run_fits.true
+pub returns-then-not-fit_run : goal.returns-then-not-fit_run
+returns-then-not-fit_run c = sizes_differ _ _ _ _ c.validate.ensures c.in_ok-validate.was _ c.expanded_length-length.ensures c.if-expansion-length.false c.if-values-length.false _ c.fit_run.ensures c.if-not-fit_run.true
 
 pub returns : goal.returns
-returns c = all_fits _ _ _ _ c.validate.ensures c.in_ok-validate.was _ c.expanded_length-length.ensures c.if-expansion-length.false c.if-values-length.false _ c.run_fits.ensures c.if-not-run_fits.false
+returns c = all_fits _ _ _ _ c.validate.ensures c.in_ok-validate.was _ c.expanded_length-length.ensures c.if-expansion-length.false c.if-values-length.false _ c.fit_run.ensures c.if-not-fit_run.false

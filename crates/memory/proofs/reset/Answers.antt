@@ -8,12 +8,12 @@ use Rattle.memory.proofs.reset.Goals as goal
 pub returns-in_err-validate-clause-outcome : goal.returns-in_err-validate-clause-outcome
 returns-in_err-validate-clause-outcome c = reset_invalid _ _ _ c.validate.ensures c.in_err-validate.was c.from_residual.ensures.1
 
-pub returns-then-not-memories_fit-clause-outcome : goal.returns-then-not-memories_fit-clause-outcome
-returns-then-not-memories_fit-clause-outcome c = reset_sizes _ _ (told c.validate.ensures c.in_ok-validate.was) (sym c.memories_fit.ensures ∙ c.if-not-memories_fit.true)
+pub returns-then-not-fit-clause-outcome : goal.returns-then-not-fit-clause-outcome
+returns-then-not-fit-clause-outcome c = reset_sizes _ _ (told c.validate.ensures c.in_ok-validate.was) (sym c.fit.ensures ∙ c.if-not-fit.true)
 
 pub write_initial-requires : goal.write_initial-requires
-write_initial-requires c = (held _ _ (sym c.memories_fit.ensures ∙ c.if-not-memories_fit.false)).states
+write_initial-requires c = (held _ _ (sym c.fit.ensures ∙ c.if-not-fit.false)).states
 
 pub returns-clause-outcome : goal.returns-clause-outcome
 returns-clause-outcome c =
-    reset_done _ _ (told c.validate.ensures c.in_ok-validate.was) (sym c.memories_fit.ensures ∙ c.if-not-memories_fit.false) c.write_initial.ensures (search rules) (search rules)
+    reset_done _ _ (told c.validate.ensures c.in_ok-validate.was) (sym c.fit.ensures ∙ c.if-not-fit.false) c.write_initial.ensures (search rules) (search rules)

@@ -11,6 +11,6 @@ pub loop-t-preserved : goal.loop-t-preserved
 loop-t-preserved c =
     record {
       long = c.sample.auto.values ∙ c.loop-t.invariant.long;
-      going = going_next _ _ _ _ _ _ _ _ _ c.loop-t.invariant.going (c.sample.ensures.sampled ∙ rw (c.loop-t.invariant.long, c.given-given.ensures));
+      going = going_next _ _ _ _ _ _ _ _ _ c.loop-t.invariant.going (c.sample.ensures.sampled ∙ rw (c.loop-t.invariant.long, c.network_word-network.ensures));
       same_tables = keeps_next c.loop-t.invariant.same_tables c.sample.ensures.same_tables;
     }

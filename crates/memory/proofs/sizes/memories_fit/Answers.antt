@@ -4,10 +4,10 @@ use Rattle.tables.specs.Tests.{◌&◌}
 use Rattle.memory.specs.Sizes.{memories_fit}
 use Rattle.memory.proofs.sizes.memories_fit.Goals as goal
 
-pub returns-then-memories-block-2 : goal.returns-then-memories-block-2
+pub returns-then-cursors-block : goal.returns-then-cursors-block
 unfolding memories_fit ◌&◌
-returns-then-memories-block-2 c = search rules
+returns-then-cursors-block c = search rules
 
-pub returns-else-memories-block-2 : goal.returns-else-memories-block-2
+pub returns-else-cursors-block : goal.returns-else-cursors-block
 unfolding memories_fit ◌&◌
-returns-else-memories-block-2 c = search rules
+returns-else-cursors-block c = search rules

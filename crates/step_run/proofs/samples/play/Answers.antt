@@ -8,7 +8,7 @@ pub samples-requires-clause-ready : goal.samples-requires-clause-ready
 samples-requires-clause-ready c =
     let s = c.args.slots.now in let m = c.args.memories.now in
     play_ready (setup_for c.args.block.now c.args.code.now c.args.signals.now) _ _ c.args.code.now.instructions.now c.args.block.now.delays.now s.control.now s.spills.now
-    m.held.now m.area.now m.cursors.now c.args.output.now refl c.requires _ _ _ _ c.start-registers.ensures.done _ c.line_bases-bases.ensures
+    m.held.now m.area.now m.cursors.now c.args.output.now refl c.requires _ _ _ _ c.start-registers.ensures.done _ c.fill_bases.ensures
 
 pub samples-requires-clause-listed : goal.samples-requires-clause-listed
 samples-requires-clause-listed c =

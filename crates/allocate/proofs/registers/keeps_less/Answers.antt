@@ -3,7 +3,7 @@ use Rattle.std.proofs.Common.{◌≡◌, refl, ◌∙◌, Bool, true, false, not
 use mathlib.Core.Bool.{beq}
 use Rattle.allocate.specs.declared.Frame.{Frame}
 use Rattle.allocate.specs.Registers.{reloads, next_read, keeps_less}
-use Rattle.allocate.proofs.Desk.keeps_less.Goals as goal
+use Rattle.allocate.proofs.registers.keeps_less.Goals as goal
 
 differ : (one two later : Bool) → not (beq one two) ≡ true → one ≡ cond one (cond two later true) (cond two false later)
 differ true true later h = cc
